@@ -1,0 +1,6 @@
+pub mod Lists
+pub mod Number
+pub mod Ranges
+pub mod Prefix
+pub mod Address
+pub mod Computing

@@ -1,0 +1,6 @@
+-- Opens the definitions of this crate, for theorems that hold by computing: `unfolding computing`.
+use Rattle.fields.specs.Field.{headOf}
+
+unfoldable pub computing : Unit {0}
+unfolding headOf
+computing = tt

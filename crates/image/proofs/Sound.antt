@@ -1,0 +1,97 @@
+-- The records of a sound image are accepted one after another: what reading it shows of defects 5, 6 and 7.
+use Prim.Native.Nat.{ℕ, zero, suc}
+use mathlib.Core.Bool.{Bool, true, false, not, cond}
+use mathlib.Core.Path.{_≡_, refl, sym, subst, ap, _∙_}
+use mathlib.Core.List.{List, [], _∷_, reverseAux}
+use native.Mathlib.Omega.{arith}
+use lib.Dec.{T, leb}
+use lib.ListN.{length, drop}
+use Rattle.fields.specs.Field.{Head, field, short, headOf}
+use Rattle.records.specs.Record.{Record, Parsed, whole, malformed, isKnown, recordOf, goodContents}
+use Rattle.records.specs.Judge.{Judged, bad, good, inOrder, crossesAny, judgeParsed, judgeAlone, judgeOverlap, judge}
+use Rattle.image.specs.Image.{Next, refused, taken, afterJudged, nextOf, afterNext, sound, defective, imageFrom, startsRight, imageOf}
+
+-- a record without defects 5, 6 and 7 after the earlier ones, the latest first
+pub record Accepted (earlier : List Record) (r : Record) : Type 0 where
+  pub contents : T (goodContents r)
+  pub ordered : T (inOrder earlier r)
+  pub apart : T (not (crossesAny earlier r))
+
+-- the later records are accepted one after another
+pub data Later : List Record → List Record → Type 0 where
+  done : {earlier : List Record} → Later earlier []
+  next : {earlier later : List Record} {r : Record} → Accepted earlier r → Later (r ∷ earlier) later → Later earlier (r ∷ later)
+
+-- What reading a sound image shows of its records
+
+of-judged : (earlier : List Record) (j : Judged) (r : Record) → judgeOverlap earlier j ≡ good r → (j ≡ good r) × T (not (crossesAny earlier r))
+of-judged earlier (bad d) r e = absurd (let z : _≡_ {A = ℕ} 0 1 = cc in omega arith)
+of-judged earlier (good q) r e = by-test (crossesAny earlier q) refl e
+  where
+    by-test : (v : Bool) → crossesAny earlier q ≡ v → cond v (bad 7) (good q) ≡ good r → (good q ≡ good r) × T (not (crossesAny earlier r))
+    by-test true p k = absurd (let z : _≡_ {A = ℕ} 0 1 = cc in omega arith)
+    by-test false p k = (k, let f : q ≡ r = cc in subst (λ (x : Record). T (not (crossesAny earlier x))) f (rw p tt))
+
+of-parsed : (earlier : List Record) (p : Parsed) (r : Record) → judgeParsed earlier p ≡ good r → T (goodContents r) × T (inOrder earlier r)
+of-parsed earlier malformed r e = absurd (let z : _≡_ {A = ℕ} 0 1 = cc in omega arith)
+of-parsed earlier (whole q) r e = by-tests (goodContents q) (inOrder earlier q) refl refl e
+  where
+    by-tests :
+        (u v : Bool) → goodContents q ≡ u → inOrder earlier q ≡ v → cond u (cond v (good q) (bad 6)) (bad 5) ≡ good r
+        → T (goodContents r) × T (inOrder earlier r)
+    by-tests true true x y k = let f : q ≡ r = cc in (subst (λ (x : Record). T (goodContents x)) f (rw x tt), subst (λ (x : Record). T (inOrder earlier x)) f (rw y tt))
+    by-tests true false x y k = absurd (let z : _≡_ {A = ℕ} 0 1 = cc in omega arith)
+    by-tests false v x y k = absurd (let z : _≡_ {A = ℕ} 0 1 = cc in omega arith)
+
+of-alone : (earlier : List Record) (tag : ℕ) (contents : List ℕ) (r : Record) → judgeAlone earlier tag contents ≡ good r → T (goodContents r) × T (inOrder earlier r)
+unfolding judgeAlone
+of-alone earlier tag contents r e = by-known (isKnown tag) e
+  where
+    by-known : (u : Bool) → cond u (judgeParsed earlier (recordOf tag contents)) (bad 3) ≡ good r → T (goodContents r) × T (inOrder earlier r)
+    by-known true k = of-parsed earlier (recordOf tag contents) r k
+    by-known false k = absurd (let z : _≡_ {A = ℕ} 0 1 = cc in omega arith)
+
+of-head : (earlier : List Record) (h : Head) (r : Record) (rest : List ℕ) → nextOf earlier h ≡ taken r rest → Accepted earlier r
+of-head earlier short r rest e = absurd (let z : _≡_ {A = ℕ} 0 1 = cc in omega arith)
+of-head earlier (field tag contents left) r rest e = by-judged (judge earlier tag contents) refl e
+  where
+    by-judged : (j : Judged) → judge earlier tag contents ≡ j → afterJudged j left ≡ taken r rest → Accepted earlier r
+    by-judged (bad d) p k = absurd (let z : _≡_ {A = ℕ} 0 1 = cc in omega arith)
+    by-judged (good q) p k =
+        let f : q ≡ r = cc in
+        let o = of-judged earlier (judgeAlone earlier tag contents) r (p ∙ ap good f) in
+        let a = of-alone earlier tag contents r (o .0) in
+        record { contents = a .0; ordered = a .1; apart = o .1 }
+
+abbrev Rest : List Record → List Record → Type 0
+Rest earlier records = (later : List Record) × Later earlier later × (records ≡ reverseAux earlier later)
+
+rest-of : (n : ℕ) (earlier : List Record) (bytes : List ℕ) (records : List Record) → imageFrom n earlier bytes ≡ sound records → Rest earlier records
+unfolding imageFrom
+rest-of zero earlier [] records e = ([], done, let f : reverseAux earlier [] ≡ records = cc in sym f)
+rest-of zero earlier (b ∷ bs) records e = absurd (let z : _≡_ {A = ℕ} 0 1 = cc in omega arith)
+rest-of (suc n) earlier [] records e = ([], done, let f : reverseAux earlier [] ≡ records = cc in sym f)
+rest-of (suc n) earlier (b ∷ bs) records e =
+    by-next (nextOf earlier (headOf (b ∷ bs))) refl e (λ r rest k. rest-of n (r ∷ earlier) rest records k)
+  where
+    by-next :
+        (x : Next) → nextOf earlier (headOf (b ∷ bs)) ≡ x
+        → afterNext earlier x (λ r rest. imageFrom n (r ∷ earlier) rest) ≡ sound records
+        → ((r : Record) (rest : List ℕ) → imageFrom n (r ∷ earlier) rest ≡ sound records → Rest (r ∷ earlier) records)
+        → Rest earlier records
+    by-next (refused d) p k onward = absurd (let z : _≡_ {A = ℕ} 0 1 = cc in omega arith)
+    by-next (taken r rest) p k onward =
+        let s = onward r rest k in
+        (r ∷ s .0, next (of-head earlier (headOf (b ∷ bs)) r rest p) (s .1), s .2)
+
+pub records-later : (image : List ℕ) (records : List Record) → imageOf image ≡ sound records → Later [] records
+unfolding imageOf
+records-later image records e = by-length (leb (length image) 262144) (startsRight image) e
+  where
+    by-length :
+        (u v : Bool) → cond u (cond v (imageFrom 4096 [] (drop 4 image)) (defective 2 0)) (defective 1 0) ≡ sound records → Later [] records
+    by-length true true k =
+        let s = rest-of 4096 [] (drop 4 image) records k in
+        subst (λ (rs : List Record). Later [] rs) (sym (s .2)) (s .1)
+    by-length true false k = absurd (let z : _≡_ {A = ℕ} 0 1 = cc in omega arith)
+    by-length false v k = absurd (let z : _≡_ {A = ℕ} 0 1 = cc in omega arith)

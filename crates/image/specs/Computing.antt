@@ -1,0 +1,7 @@
+-- Opens the definitions of this crate and of those below it, for theorems that hold by computing: `unfolding computing`.
+use Rattle.records.specs.Computing as Records
+use Rattle.image.specs.Image.{imageFrom, startsRight, imageOf}
+
+unfoldable pub computing : Unit {0}
+unfolding Records.computing imageFrom startsRight imageOf
+computing = tt

@@ -1,0 +1,4 @@
+pub mod Image
+pub mod Part
+pub mod Example
+pub mod Computing

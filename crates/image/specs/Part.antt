@@ -1,0 +1,31 @@
+-- The handle or the name of a record by its number.
+use mathlib.Core.List.{List, [], _∷_}
+use Prim.Native.Nat.{ℕ, _<_}
+use mathlib.Core.Logic.{_↔_}
+use mathlib.Core.Path.{_≡_}
+use lib.ListN.{length, drop}
+use Rattle.records.specs.Record.{Record}
+use Rattle.image.specs.Image.{Image, sound, defective, imageOf}
+use Rattle.image.specs.declared.Which.{Which}
+use Rattle.image.specs.declared.Which.the-variants.{Handle, Name}
+
+-- the records of an image, none if it is defective
+abbrev pub recordsOf : Image → List Record
+recordsOf (sound records) = records
+recordsOf (defective defect place) = []
+
+abbrev pub textOf : Which → Record → List ℕ
+textOf Handle r = r .handle
+textOf Name r = r .name
+
+abbrev pub textOfFirst : Which → List Record → List ℕ
+textOfFirst which [] = []
+textOfFirst which (r ∷ records) = textOf which r
+
+-- empty if there is no such record
+abbrev pub excerptOf : Image → ℕ → Which → List ℕ
+excerptOf image n which = textOfFirst which (drop n (recordsOf image))
+
+-- This part is empty exactly if the image is defective (it then has no records) or there is no such record. Proved in proofs/EmptyPart.antt.
+abbrev pub EmptyPart : Type 0
+EmptyPart = (image : List ℕ) (n : ℕ) (which : Which) → (excerptOf (imageOf image) n which ≡ []) ↔ (n < length (recordsOf (imageOf image)) → ⊥)

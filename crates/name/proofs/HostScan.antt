@@ -1,0 +1,219 @@
+-- The scan of a host name in lower case tests the rule: at each byte, what is left of the scan is the rule for the labels that are left,
+-- the first of which goes on the part p that is read.
+use mathlib.Core.Bool.{Bool, false, true, not, cond, _&&_, _||_, false≢true}
+use mathlib.Core.Path.{_≡_, refl, sym, ap, _∙_}
+use mathlib.Core.List.{List, [], _∷_, _++_, append-nil, append-assoc}
+use Prim.Native.Nat.{ℕ, suc, _+_, _-_, _≤_}
+use native.Mathlib.Omega.{arith}
+use borrow.Author.Tests.{eqb-true, leb-true, le-leb}
+use lib.Dec.{leb, eqb}
+use lib.ListN.{length, getD, length-append}
+use lib.Seq.{getD-append-add}
+use Rattle.address.specs.Lists.{within, every}
+use Rattle.pieces.specs.Split.{joinFirst, split}
+use Rattle.name.specs.Host.{isLabelByte, isLabel, isHostName}
+use Rattle.name.specs.Texts.{goodHost}
+use Rattle.name.specs.HostScan.{letterOrDigit, labelsFrom}
+
+and-false : (b : Bool) → (b && false) ≡ false
+and-false true = refl
+and-false false = refl
+
+and-assoc : (a b c : Bool) → (a && (b && c)) ≡ (a && b && c)
+and-assoc true b c = refl
+and-assoc false b c = refl
+
+abbrev small : ℕ → Bool
+small c = not (within 0x41 0x5A c)
+
+abbrev hyphenLast : List ℕ → Bool
+hyphenLast p = eqb (getD p (length p - 1) 0) 45
+
+-- the part of a label that is read has only its bytes, and no hyphen first
+record Opened (p : List ℕ) : Type 0 where
+  bytes : every isLabelByte p ≡ true
+  first : eqb (getD p 0 0) 45 ≡ false
+
+label-is : (p : List ℕ) → Opened p → isLabel p ≡ (within 1 63 (length p) && not (hyphenLast p))
+unfolding isLabel
+label-is p o = rw (o .first, o .bytes) (go (within 1 63 (length p)) (not (hyphenLast p)))
+  where
+    go : (x y : Bool) → (x && true && y && true) ≡ (x && y)
+    go true true = refl
+    go true false = refl
+    go false y = refl
+
+every-append : (p q : List ℕ) → every isLabelByte (p ++ q) ≡ (every isLabelByte p && every isLabelByte q)
+unfolding every
+every-append [] q = refl
+every-append (x ∷ p) q = ap (λ (b : Bool). isLabelByte x && b) (every-append p q) ∙ and-assoc (isLabelByte x) (every isLabelByte p) (every isLabelByte q)
+
+-- a label with a byte that is none of its bytes, or with a hyphen first
+bad-byte : (q x : List ℕ) → every isLabelByte q ≡ false → isLabel (q ++ x) ≡ false
+unfolding isLabel
+bad-byte q x e =
+    rw (every-append q x, e)
+    (and-false (leb 1 (length (q ++ x)) && leb (length (q ++ x)) 63 && not (eqb (getD (q ++ x) 0 0) 45) && not (eqb (getD (q ++ x) (length (q ++ x) - 1) 0) 45)))
+
+bad-first : (c : ℕ) (x : List ℕ) → eqb c 45 ≡ true → isLabel (c ∷ x) ≡ false
+unfolding isLabel
+bad-first c x e = rw (e, and-false (leb 1 (suc (length x)) && leb (suc (length x)) 63)) refl
+
+bad-joined : (q : List ℕ) (ls : List (List ℕ)) → ((x : List ℕ) → isLabel (q ++ x) ≡ false) → every isLabel (joinFirst q ls) ≡ false
+unfolding every joinFirst
+bad-joined q [] f = rw (← append-nil q, f []) refl
+bad-joined q (x ∷ ls) f = rw (f x) refl
+
+join-nil : (s : List ℕ) → joinFirst [] (split 46 s) ≡ split 46 s
+unfolding joinFirst split
+join-nil [] = refl
+join-nil (c ∷ s) = go (eqb c 46) (split 46 s)
+  where
+    go : (v : Bool) (ls : List (List ℕ)) → joinFirst [] (cond v ([] ∷ ls) (joinFirst (c ∷ []) ls)) ≡ cond v ([] ∷ ls) (joinFirst (c ∷ []) ls)
+    go true ls = refl
+    go false [] = refl
+    go false (x ∷ ls) = refl
+
+join-join : (p q : List ℕ) (ls : List (List ℕ)) → joinFirst p (joinFirst q ls) ≡ joinFirst (p ++ q) ls
+unfolding joinFirst
+join-join p q [] = refl
+join-join p q (x ∷ ls) = ap (λ (y : List ℕ). y ∷ ls) (sym (append-assoc p q x))
+
+opened-nil : Opened []
+unfolding every
+opened-nil = record { bytes = refl; first = refl }
+
+opened-more : (p : List ℕ) (c : ℕ) → Opened p → isLabelByte c ≡ true → ((p ≡ []) → eqb c 45 ≡ false) → Opened (p ++ c ∷ [])
+unfolding every
+opened-more p c o e f = record { bytes = rw (every-append p (c ∷ []), o .bytes, e) refl; first = go p f (o .first) }
+  where
+    go : (p : List ℕ) → ((p ≡ []) → eqb c 45 ≡ false) → eqb (getD p 0 0) 45 ≡ false → eqb (getD (p ++ c ∷ []) 0 0) 45 ≡ false
+    go [] f e = f refl
+    go (x ∷ p) f e = e
+
+last-more : (p : List ℕ) (c : ℕ) → hyphenLast (p ++ c ∷ []) ≡ eqb c 45
+last-more p c = ap (λ (n : ℕ). eqb n 45) (ap (λ (n : ℕ). getD (p ++ c ∷ []) n 0) place ∙ getD-append-add p (c ∷ []) 0 0)
+  where
+    place : length (p ++ c ∷ []) - 1 ≡ length p + 0
+    place = simp length-append (omega arith)
+
+length-more : (p : List ℕ) (c : ℕ) → length (p ++ c ∷ []) ≡ length p + 1
+length-more p c = simp length-append
+
+-- a byte that is no letter in lower case, no digit and no hyphen is no label byte, or a capital
+other-byte : (c : ℕ) → eqb c 45 ≡ false → letterOrDigit c ≡ false → (isLabelByte c && small c) ≡ false
+unfolding isLabelByte letterOrDigit
+other-byte c h e = go (within 0x61 0x7A c) (within 0x30 0x39 c) (within 0x41 0x5A c) refl refl refl e
+  where
+    go :
+        (u v w : Bool) → within 0x61 0x7A c ≡ u → within 0x30 0x39 c ≡ v → within 0x41 0x5A c ≡ w → (u || v) ≡ false
+        → ((v || w || u || eqb c 45) && not w) ≡ false
+    go true v w x y z k = absurd (let i : _≡_ {A = Bool} true false = k in let n : _≡_ {A = ℕ} 0 1 = cc in omega arith)
+    go false true w x y z k = absurd (let i : _≡_ {A = Bool} true false = k in let n : _≡_ {A = ℕ} 0 1 = cc in omega arith)
+    go false false true x y z k = refl
+    go false false false x y z k = rw h refl
+
+and-left : (a b : Bool) → (a && b) ≡ true → a ≡ true
+and-left true b e = refl
+and-left false b e = e
+
+and-right : (a b : Bool) → (a && b) ≡ true → b ≡ true
+and-right true b e = e
+and-right false b e = absurd (false≢true e)
+
+within-low : (a b c : ℕ) → within a b c ≡ true → a ≤ c
+within-low a b c e = leb-true a c (and-left (leb a c) (leb c b) e)
+
+within-high : (a b c : ℕ) → within a b c ≡ true → c ≤ b
+within-high a b c e = leb-true c b (and-right (leb a c) (leb c b) e)
+
+letter-byte : (c : ℕ) → letterOrDigit c ≡ true → isLabelByte c ≡ true
+unfolding letterOrDigit isLabelByte
+letter-byte c e = go (within 0x61 0x7A c) (within 0x30 0x39 c) (within 0x41 0x5A c) e
+  where
+    go : (u v w : Bool) → (u || v) ≡ true → (v || w || u || eqb c 45) ≡ true
+    go u true w k = refl
+    go true false true k = refl
+    go true false false k = refl
+    go false false w k = absurd (false≢true k)
+
+letter-small : (c : ℕ) → letterOrDigit c ≡ true → small c ≡ true
+unfolding letterOrDigit
+letter-small c e = go (within 0x61 0x7A c) (within 0x30 0x39 c) (within 0x41 0x5A c) refl refl refl e
+  where
+    go : (u v w : Bool) → within 0x61 0x7A c ≡ u → within 0x30 0x39 c ≡ v → within 0x41 0x5A c ≡ w → (u || v) ≡ true → not w ≡ true
+    go u v false x y z k = refl
+    go true v true x y z k = absurd (omega (arith, within-low 0x61 0x7A c x, within-high 0x41 0x5A c z))
+    go false true true x y z k = absurd (omega (arith, within-high 0x30 0x39 c y, within-low 0x41 0x5A c z))
+    go false false true x y z k = absurd (false≢true k)
+
+hyphen-byte : (c : ℕ) → eqb c 45 ≡ true → isLabelByte c ≡ true
+unfolding isLabelByte
+hyphen-byte c e = ap isLabelByte (eqb-true c 45 e)
+
+hyphen-small : (c : ℕ) → eqb c 45 ≡ true → small c ≡ true
+hyphen-small c e = ap (λ (n : ℕ). small n) (eqb-true c 45 e)
+
+dot-small : (c : ℕ) → eqb c 46 ≡ true → small c ≡ true
+dot-small c e = ap (λ (n : ℕ). small n) (eqb-true c 46 e)
+
+-- what the scan of s gives after the part p
+abbrev Scanned : List ℕ → List ℕ → Type 0
+Scanned s p = labelsFrom (length p) (hyphenLast p) s ≡ (every isLabel (joinFirst p (split 46 s)) && every small s)
+
+-- the byte c goes on the part p
+module _ (c : ℕ) (s p : List ℕ) where
+  abbrev Left : Bool → Type 0
+  Left b = b ≡ (every isLabel (joinFirst (p ++ c ∷ []) (split 46 s)) && (small c && every small s))
+
+  onward : small c ≡ true → Scanned s (p ++ c ∷ []) → Left (labelsFrom (length p + 1) (eqb c 45) s)
+  onward f m =
+      rw f
+      (sym (ap (λ (k : ℕ). labelsFrom k (eqb c 45) s) (length-more p c))
+      ∙ sym (ap (λ (h : Bool). labelsFrom (length (p ++ c ∷ [])) h s) (last-more p c)) ∙ m)
+
+  refused : eqb c 45 ≡ false → letterOrDigit c ≡ false → Left false
+  unfolding every
+  refused h e = go (isLabelByte c) refl (other-byte c h e)
+    where
+      go : (v : Bool) → isLabelByte c ≡ v → (v && small c) ≡ false → Left false
+      go true x k = rw k (sym (and-false (every isLabel (joinFirst (p ++ c ∷ []) (split 46 s)))))
+      go false x k =
+          rw (bad-joined (p ++ c ∷ []) (split 46 s) (λ y. bad-byte (p ++ c ∷ []) y (every-append p (c ∷ []) ∙ rw x (and-false (every isLabelByte p))))) refl
+
+scan : (s p : List ℕ) → Opened p → Scanned s p
+unfolding labelsFrom split every joinFirst
+scan [] p o = rw (append-nil p, label-is p o) (go (within 1 63 (length p) && not (hyphenLast p)))
+  where
+    go : (x : Bool) → x ≡ (x && true && true)
+    go true = refl
+    go false = refl
+scan (c ∷ s) p o = by-byte (eqb c 46) (eqb c 45) (letterOrDigit c) refl refl refl (scan s [] opened-nil) (λ q. scan s (p ++ c ∷ []) q)
+  where
+    hyphen : (p : List ℕ) → Opened p → eqb c 45 ≡ true → (Opened (p ++ c ∷ []) → Scanned s (p ++ c ∷ [])) → Left c s p (leb 1 (length p) && labelsFrom (length p + 1) true s)
+    hyphen [] o e more = rw (bad-joined (c ∷ []) (split 46 s) (λ x. bad-first c x e)) refl
+    hyphen (x ∷ p) o e more =
+        let q = opened-more (x ∷ p) c o (hyphen-byte c e) (λ n. absurd (let z : _≡_ {A = ℕ} 0 1 = cc in omega arith)) in
+        rw (le-leb 1 (suc (length p)) (omega arith)) (rw e at (onward c s (x ∷ p) (hyphen-small c e) (more q)))
+
+    by-byte :
+        (u v w : Bool) → eqb c 46 ≡ u → eqb c 45 ≡ v → letterOrDigit c ≡ w
+        → labelsFrom 0 false s ≡ (every isLabel (joinFirst [] (split 46 s)) && every small s)
+        → (Opened (p ++ c ∷ []) → Scanned s (p ++ c ∷ []))
+        → cond u (within 1 63 (length p) && not (hyphenLast p) && labelsFrom 0 false s)
+        (cond v (leb 1 (length p) && labelsFrom (length p + 1) true s) (w && labelsFrom (length p + 1) false s))
+        ≡ (every isLabel (joinFirst p (cond u ([] ∷ split 46 s) (joinFirst (c ∷ []) (split 46 s)))) && (small c && every small s))
+    by-byte true v w x y z start more =
+        rw (append-nil p, label-is p o, dot-small c x, start, join-nil s)
+        (and-assoc (within 1 63 (length p) && not (hyphenLast p)) (every isLabel (split 46 s)) (every small s))
+    by-byte false true w x y z start more = rw (join-join p (c ∷ []) (split 46 s)) (hyphen p o y more)
+    by-byte false false true x y z start more =
+        rw (join-join p (c ∷ []) (split 46 s))
+        (rw y at (onward c s p (letter-small c z) (more (opened-more p c o (letter-byte c z) (λ n. y)))))
+    by-byte false false false x y z start more = rw (join-join p (c ∷ []) (split 46 s)) (refused c s p y z)
+
+pub host-scan : (s : List ℕ) → goodHost s ≡ (leb (length s) 253 && labelsFrom 0 false s)
+unfolding goodHost isHostName
+host-scan s =
+    sym (ap (λ (b : Bool). leb (length s) 253 && b) (scan s [] opened-nil ∙ ap (λ (ls : List (List ℕ)). every isLabel ls && every small s) (join-nil s))
+    ∙ and-assoc (leb (length s) 253) (every isLabel (split 46 s)) (every small s))

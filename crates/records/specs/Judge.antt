@@ -1,0 +1,35 @@
+-- A record judged against the earlier ones: its lowest defect (document 01, "The image").
+use mathlib.Core.Bool.{Bool, true, false, cond, _||_}
+use mathlib.Core.List.{List, [], _∷_}
+use Prim.Native.Nat.{ℕ}
+use Rattle.records.specs.Record.{Record, Parsed, whole, malformed, isKnown, recordOf, goodContents, follows, crossesBlock}
+
+-- a record's lowest defect, or the record
+pub data Judged : Type 0 where
+  bad : ℕ → Judged
+  good : Record → Judged
+
+-- `earlier` is the records before it, the latest first
+unfoldable pub inOrder : List Record → Record → Bool
+inOrder [] r = true
+inOrder (p ∷ earlier) r = follows p r
+
+unfoldable pub crossesAny : List Record → Record → Bool
+crossesAny [] r = false
+crossesAny (e ∷ earlier) r = crossesBlock e r || crossesAny earlier r
+
+-- defects 3 to 6
+abbrev pub judgeParsed : List Record → Parsed → Judged
+judgeParsed earlier malformed = bad 4
+judgeParsed earlier (whole r) = cond (goodContents r) (cond (inOrder earlier r) (good r) (bad 6)) (bad 5)
+
+unfoldable pub judgeAlone : List Record → ℕ → List ℕ → Judged
+judgeAlone earlier tag contents = cond (isKnown tag) (judgeParsed earlier (recordOf tag contents)) (bad 3)
+
+-- defect 7
+abbrev pub judgeOverlap : List Record → Judged → Judged
+judgeOverlap earlier (bad defect) = bad defect
+judgeOverlap earlier (good r) = cond (crossesAny earlier r) (bad 7) (good r)
+
+abbrev pub judge : List Record → ℕ → List ℕ → Judged
+judge earlier tag contents = judgeOverlap earlier (judgeAlone earlier tag contents)

@@ -1,0 +1,100 @@
+-- A record and the rules on one record (defects 3 to 7).
+use mathlib.Core.Bool.{Bool, not, cond, _&&_, _||_}
+use mathlib.Core.List.{List, [], _∷_}
+use Prim.Native.Nat.{ℕ, _*_}
+use lib.Dec.{leb, ltb, eqb}
+use lib.ListN.{length, take, drop}
+use Rattle.address.specs.Lists.{within}
+use Rattle.address.specs.Number.{value, atMost}
+use Rattle.address.specs.Ranges.{Range, wellFormed, sortsAfter, crosses}
+use Rattle.fields.specs.Field.{Head, field, short, headOf}
+use Rattle.name.specs.Texts.{goodText, goodHost}
+
+-- the contents of a record's fields 20 to 23; a record that has no 20 and 23 has none there
+pub record Record : Type 0 where
+  pub tag : ℕ
+  pub range : List ℕ
+  pub handle : List ℕ
+  pub name : List ℕ
+  pub status : List ℕ
+
+-- 10 IPv4 network, 11 IPv6 network, 12 AS block; 13 domain, 14 nameserver, 15 entity
+abbrev pub isBlock : ℕ → Bool
+isBlock tag = within 0x10 0x12 tag
+
+abbrev pub isKnown : ℕ → Bool
+isKnown tag = within 0x10 0x15 tag
+
+-- the bytes of an address or number of a block
+abbrev pub widthOf : ℕ → ℕ
+widthOf tag = cond (eqb tag 0x11) 16 4
+
+-- Field 20 is first and last, both included, high byte first.
+abbrev pub rangeFrom : ℕ → List ℕ → Range
+rangeFrom width bytes = record { first = value (take width bytes); last = value (drop width bytes) }
+
+abbrev pub rangeOf : Record → Range
+rangeOf r = rangeFrom (widthOf (r .tag)) (r .range)
+
+abbrev pub firstOf : Record → ℕ
+firstOf r = rangeOf r .first
+
+abbrev pub lastOf : Record → ℕ
+lastOf r = rangeOf r .last
+
+-- Defect 4
+
+pub data Parsed : Type 0 where
+  whole : Record → Parsed
+  malformed : Parsed
+
+-- a row that starts with a field of this tag, and what is made of its contents and of the rest
+abbrev pub following : Head → ℕ → (List ℕ → List ℕ → Parsed) → Parsed
+following short tag next = malformed
+following (field t contents rest) tag next = cond (eqb t tag) (next contents rest) malformed
+
+abbrev pub starting : ℕ → List ℕ → (List ℕ → List ℕ → Parsed) → Parsed
+starting tag bytes next = following (headOf bytes) tag next
+
+abbrev pub ending : List ℕ → Parsed → Parsed
+ending [] p = p
+ending (b ∷ bs) p = malformed
+
+unfoldable pub recordOf : ℕ → List ℕ → Parsed
+recordOf tag contents =
+    cond (isBlock tag)
+    (starting 0x20 contents λ range rest. starting 0x21 rest λ handle rest. starting 0x22 rest λ name rest. starting 0x23 rest λ status rest.
+    ending rest
+    (cond (eqb (length range) (2 * widthOf tag) && eqb (length status) 1)
+    (whole (record { tag = tag; range = range; handle = handle; name = name; status = status })) malformed))
+    (starting 0x21 contents λ handle rest. starting 0x22 rest λ name rest.
+    ending rest (whole (record { tag = tag; range = []; handle = handle; name = name; status = [] })))
+
+-- Defect 5
+
+-- records 13 and 14 are named by a host name
+unfoldable pub goodName : ℕ → List ℕ → Bool
+goodName tag name = cond (within 0x13 0x14 tag) (goodHost name) (goodText 0x20 name)
+
+unfoldable pub goodContents : Record → Bool
+goodContents r =
+    goodText 0x21 (r .handle) && goodName (r .tag) (r .name) && (leb (value (r .status)) 1 && wellFormed (rangeOf r))
+
+-- Defect 6
+
+-- what a record that is no block is sorted by
+abbrev pub keyOf : Record → List ℕ
+keyOf r = cond (eqb (r .tag) 0x15) (r .handle) (r .name)
+
+-- of one tag, r strictly after p in the sorting: blocks by first ascending, then last descending
+unfoldable pub sortedAfter : Record → Record → Bool
+sortedAfter p r = cond (isBlock (r .tag)) (sortsAfter (rangeOf p) (rangeOf r)) (not (atMost (keyOf r) (keyOf p)))
+
+unfoldable pub follows : Record → Record → Bool
+follows p r = ltb (p .tag) (r .tag) || (eqb (p .tag) (r .tag) && sortedAfter p r)
+
+-- Defect 7
+
+-- r is a block that overlaps the earlier block e of its tag without lying inside it
+unfoldable pub crossesBlock : Record → Record → Bool
+crossesBlock e r = isBlock (r .tag) && eqb (e .tag) (r .tag) && crosses (rangeOf e) (rangeOf r)
