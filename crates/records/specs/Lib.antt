@@ -1,3 +1,4 @@
 pub mod Record
 pub mod Judge
+pub mod Examples
 pub mod Computing
