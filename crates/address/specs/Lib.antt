@@ -1,5 +1,6 @@
 pub mod Lists
 pub mod Number
+pub mod Words
 pub mod Ranges
 pub mod Prefix
 pub mod Address

@@ -98,6 +98,10 @@ ipv6 s =
     let full : Option (List ℕ) = exactly 16 (groups true (split 58 s)) in
     cond (ltb at (length s)) short full
 
+-- of either family; IPv4 text never names an IPv6 address
+unfoldable pub addressOf : List ℕ → Option (List ℕ)
+addressOf s = orElse (ipv4 s) (ipv6 s)
+
 -- what a reader of groups answers for o: the first len bytes, or a refusal where o is none or has more than 16
 pub record GroupsRead (o : Option (List ℕ)) (ok : Bool) (len : ℕ) (bytes : List ℕ) : Type 0 where
   pub small : len ≤ 16

@@ -1,0 +1,163 @@
+-- The loop's invariant: of first the bits passed are zero, and last is first with those bits set; one turn is a law of `LowBits`.
+use mathlib.Core.Path.{_≡_, refl, sym, _∙_}
+use mathlib.Core.List.{List}
+use Prim.Native.Nat.{ℕ, _+_, _-_, _*_, _^_, _%_, _≤_, _<_}
+use native.Mathlib.Omega.{arith}
+use lib.ListN.{length, getD, length-set}
+use lib.Seq.{getD-set-other}
+use Rattle.address.specs.Number.{value, Bytes}
+use Rattle.address.proofs.Bytes.{array-bytes}
+use Rattle.address.proofs.LowBits as low
+use borrow.Author.Needs.{needs}
+use Rattle.address.proofs.prefix_range.Statement.{statement}
+use Rattle.address.proofs.prefix_range.Tie as tie
+
+abbrev Inv-loop : tie.InvT-loop
+Inv-loop first bits l last₀ left₀ i₀ last left i =
+    (i ≤ 16) × (left ≡ bits - l - 8 * (16 - i)) × (length last ≡ 16) × ((j : ℕ) → j < i → getD last j 0 ≡ getD (first .bytes) j 0)
+    × (value (first .bytes) % 2 ^ (bits - l - left) ≡ 0)
+    × (value last + 1 ≡ value (first .bytes) + 2 ^ (bits - l - left))
+
+abbrev μ-loop : tie.MeasureT-loop
+μ-loop first bits l last₀ left₀ i₀ last left i = left
+
+-- what is known of the sixteen bytes
+known : (c : tie.Start Inv-loop μ-loop) → (length (c .args .first .bytes) ≡ 16) × Bytes (c .args .first .bytes)
+known c = array-bytes 16 (c .args .first .bytes) _ (c .good .0 .1 .1 .0)
+
+-- what a turn has read: the byte of first before i, and how many of its bits are asked for
+module _ (c : tie.After-wide Inv-loop μ-loop) where
+  abbrev bytes : List ℕ
+  bytes = c .before .before .before .before .before .before .args .first .bytes
+
+  abbrev i : ℕ
+  i = c .before .before .before .before .loop .i
+
+  abbrev at : ℕ
+  at = i - 1
+
+  abbrev left : ℕ
+  left = c .before .before .before .before .loop .left
+
+  abbrev bits : ℕ
+  bits = c .before .before .before .before .before .before .args .bits - c .before .before .before .before .before .before .args .l
+
+  abbrev k : ℕ
+  k = c .before .before .byte-bits .result
+
+  byte : c .wide .result ≡ getD bytes at 0
+  byte = c .wide .ensures .0 ∙ c .before .before .before .before .loop .inv .3 at (omega arith)
+
+  size : c .before .power-of-two .result ≡ 2 ^ k
+  size = c .before .power-of-two .ensures .0
+
+  low-bits : c .wide .result % c .before .power-of-two .result ≡ getD bytes at 0 % 2 ^ k
+  low-bits = cc (byte, size)
+
+  full : c .wide .result + (c .before .power-of-two .result - 1) ≡ getD bytes at 0 + (2 ^ k - 1)
+  full = cc (byte, size)
+
+  turn : low.Turn bytes 16 bits left i k
+  turn = record {
+    known = known (c .before .before .before .before .before .before) .1;
+    sized = known (c .before .before .before .before .before .before) .0;
+    within = c .before .before .before .before .loop .inv .0;
+    fits = omega arith;
+    passed = c .before .before .before .before .loop .inv .1;
+    more = omega arith;
+    asked = c .before .before .byte-bits .ensures;
+  }
+
+sub-left : tie.Need-sub-left Inv-loop μ-loop
+sub-left c = search needs
+
+loop-holds : tie.Need-loop-holds Inv-loop μ-loop
+loop-holds c =
+    let a = c .before .args in
+    let z : a .bits - a .l - (a .bits - a .l) ≡ 0 = omega arith in
+    (omega arith, omega arith, known (c .before) .0, λ j h. refl, rw z (omega arith), rw z)
+
+sub-i : tie.Need-sub-i Inv-loop μ-loop
+sub-i c = search needs
+
+byte-bits-requires : tie.Need-byte-bits-requires Inv-loop μ-loop
+byte-bits-requires c κs = search needs
+
+power-of-two-requires : tie.Need-power-of-two-requires Inv-loop μ-loop
+power-of-two-requires c κs = search needs
+
+array-read-wide : tie.Need-array-read-wide Inv-loop μ-loop
+array-read-wide c = search needs
+
+wide-requires : tie.Need-wide-requires Inv-loop μ-loop
+wide-requires c κs = search needs
+
+rem-if1 : tie.Need-rem-if1 Inv-loop μ-loop
+rem-if1 c = search needs
+
+returns : tie.Need-returns Inv-loop μ-loop
+returns c = low.none-ranged _ _ _ _ (low.turn-refused (turn (c .before)) (omega (arith, low-bits (c .before))))
+
+sub-last : tie.Need-sub-last Inv-loop μ-loop
+sub-last c = search needs
+
+add-last : tie.Need-add-last Inv-loop μ-loop
+add-last c = search needs
+
+cast-last : tie.Need-cast-last Inv-loop μ-loop
+cast-last c =
+    rw (size (c .before)) (record {
+      fits = low.room (k (c .before)) (c .before .wide .result) (omega arith) (c .before .wide .ensures .1) (rw (size (c .before)) at (c .if1 .left));
+    })
+
+array-write-last : tie.Need-array-write-last Inv-loop μ-loop
+array-write-last c = search needs
+
+sub-left-2 : tie.Need-sub-left-2 Inv-loop μ-loop
+sub-left-2 c = search needs
+
+loop-less : tie.Need-loop-less Inv-loop μ-loop
+loop-less c = search needs
+
+loop-again : tie.Need-loop-again Inv-loop μ-loop
+loop-again c =
+    let o = c .before .before .before .before .before .loop in
+    let t = turn (c .before) in (
+      omega arith,
+      low.turn-left t,
+      simp length-set (o .inv .2),
+      λ j h. getD-set-other (o .last) (o .i - 1) j _ 0 (λ (q : j ≡ o .i - 1). omega arith) ∙ o .inv .3 j (omega arith),
+      low.turn-cleared t (o .inv .4) (sym (low-bits (c .before)) ∙ c .if1 .left),
+      rw (full (c .before)) (low.turn-raised t (o .last) (o .inv .2) (o .inv .3 (o .i - 1) (omega arith)) (o .inv .5)),
+    )
+
+returns-2 : tie.Need-returns-2 Inv-loop μ-loop
+returns-2 c =
+    let a = c .before .before .before .args in
+    let o = c .before .loop in
+    let z : a .bits - a .l - o .left ≡ a .bits - a .l = omega arith in
+    low.ranged _ _ _ _ (rw z at (o .inv .4)) (rw z at (o .inv .5))
+
+pub prefix-range-spec : {M : Type 1} → statement M
+prefix-range-spec =
+    tie.close
+    (tie.spec
+    Inv-loop
+    μ-loop
+    sub-left
+    loop-holds
+    sub-i
+    byte-bits-requires
+    power-of-two-requires
+    array-read-wide
+    wide-requires
+    rem-if1
+    returns
+    sub-last
+    add-last
+    cast-last
+    array-write-last
+    sub-left-2
+    loop-less
+    loop-again
+    returns-2)

@@ -1,0 +1,4 @@
+mod Addresses
+mod GroupLaws
+mod Elisions
+pub mod Answers

@@ -1,0 +1,42 @@
+-- `read_address` answers as the definition says: by the IPv4 reader first, then by the IPv6 reader.
+use mathlib.Core.Path.{_≡_}
+use lib.ListN.{length}
+use denote.Ref.{now}
+use borrow.Author.Needs.{needs}
+use Rattle.ip.proofs.Answers.{answer-four, answer-six, answer-none}
+use Rattle.ip.proofs.read_address.Statement.{statement}
+use Rattle.ip.proofs.read_address.Tie as tie
+
+read-ipv4-requires : tie.Need-read-ipv4-requires
+read-ipv4-requires c κs = search needs
+
+put-ipv4-requires : tie.Need-put-ipv4-requires
+put-ipv4-requires c κs = search needs
+
+returns : tie.Need-returns
+returns c =
+    let s = now (c .before .before .before .before .before .args .s) in
+    let four = c .before .before .before .read-ipv4 in
+    let l : length (four .result .bytes) ≡ 4 = search needs in
+    let k : length (c .put-ipv4 .result) ≡ 16 = search needs in
+    answer-four s _ _ (four .ensures) _ (c .before .before .if1 .taken) l k (c .put-ipv4 .ensures)
+
+read-ipv6-requires : tie.Need-read-ipv6-requires
+read-ipv6-requires c κs = search needs
+
+returns-2 : tie.Need-returns-2
+returns-2 c =
+    let s = now (c .before .before .before .before .before .before .args .s) in
+    let six = c .before .before .read-ipv6 in
+    let l : length (six .result .bytes) ≡ 16 = search needs in
+    answer-six s _ _ (c .before .before .before .before .read-ipv4 .ensures) (c .before .before .before .if1 .left) _ _ (six .ensures) (c .before .if2 .taken) l
+
+returns-3 : tie.Need-returns-3
+returns-3 c =
+    let s = now (c .before .before .before .before .before .args .s) in
+    answer-none s _ _ (c .before .before .before .read-ipv4 .ensures) (c .before .before .if1 .left) _ _ (c .before .read-ipv6 .ensures) (c .if2 .left)
+
+pub read-address-spec : {M : Type 1} → statement M
+read-address-spec =
+    tie.close
+    (tie.spec read-ipv4-requires put-ipv4-requires returns read-ipv6-requires returns-2 returns-3)

@@ -1,0 +1,75 @@
+-- `read_elided` reads both sides of "::": a side that is refused has no bytes, or more than the sixteen that the sides may have.
+use Prim.Native.Nat.{_+_}
+use mathlib.Core.Bool.{true, false}
+use mathlib.Core.Path.{sym}
+use native.Mathlib.Omega.{arith}
+use lib.Seq.{length-take-le}
+use lib.ListN.{take, drop}
+use denote.Ref.{now}
+use borrow.Author.Needs.{needs}
+use Rattle.pieces.proofs.Pieces.{rest-is}
+use Rattle.address.specs.Lists.{found}
+use Rattle.ip.specs.Ip.{side}
+use Rattle.ip.proofs.GroupLaws.{read-some, read-none, elided-left, elided-right}
+use Rattle.ip.proofs.read_elided.Statement.{statement}
+use Rattle.ip.proofs.read_elided.Tie as tie
+
+slice-aggregate-read-side : tie.Need-slice-aggregate-read-side
+slice-aggregate-read-side c = sym (length-take-le _ _ (omega arith))
+
+read-side-requires : tie.Need-read-side-requires
+read-side-requires c κs = search needs
+
+add-read-side : tie.Need-add-read-side
+add-read-side c = search needs
+
+sub-read-side : tie.Need-sub-read-side
+sub-read-side c = search needs
+
+part-read-side-start : tie.Need-part-read-side-start
+part-read-side-start c = search needs
+
+part-read-side-end : tie.Need-part-read-side-end
+part-read-side-end c = search needs
+
+read-side-requires-2 : tie.Need-read-side-requires-2
+read-side-requires-2 c κs = search needs
+
+join-sides-requires : tie.Need-join-sides-requires
+join-sides-requires c κs = (c .before .before .before .before .read-side .ensures .small, c .before .before .read-side2 .ensures .small)
+
+returns : tie.Need-returns
+returns c =
+    let s = now (c .before .before .before .before .before .before .before .before .args .s) in
+    let at = c .before .before .before .before .before .before .before .before .args .at in
+    rw (read-some (c .before .before .before .before .before .read-side .ensures) (c .before .before .if1 .taken), ← (rest-is s (at + 2)), read-some (c .before .before .before .read-side2 .ensures) (c .before .if2 .taken)) (c .join-sides .ensures)
+
+returns-2 : tie.Need-returns-2
+unfolding found
+returns-2 c =
+    let s = now (c .before .before .before .before .before .before .before .args .s) in
+    let at = c .before .before .before .before .before .before .before .args .at in
+    rw (← (rest-is s (at + 2))) (sym (elided-right (side false (take at s)) _ (read-none (c .before .before .read-side2 .ensures) (c .if2 .left))))
+
+returns-3 : tie.Need-returns-3
+unfolding found
+returns-3 c =
+    let s = now (c .before .before .before .before .before .before .args .s) in
+    let at = c .before .before .before .before .before .before .args .at in
+    sym (elided-left (side false (take at s)) (side true (drop (at + 2) s)) (read-none (c .before .before .before .read-side .ensures) (c .if1 .left)))
+
+pub read-elided-spec : {M : Type 1} → statement M
+read-elided-spec =
+    tie.close
+    (tie.spec
+    slice-aggregate-read-side
+    read-side-requires
+    add-read-side
+    sub-read-side
+    part-read-side-start
+    part-read-side-end
+    read-side-requires-2
+    join-sides-requires
+    returns
+    returns-2
+    returns-3)

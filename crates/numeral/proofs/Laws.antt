@@ -1,0 +1,104 @@
+-- Laws of numerals: the next byte is a digit, is none, or there is none; a number above max stays above it; a number that was read is at most max.
+use Prim.Native.Nat.{ℕ, _+_, _*_, _≤_, _<_, _^_}
+use mathlib.Core.Path.{_≡_, refl}
+use mathlib.Core.List.{List, [], _∷_}
+use mathlib.Core.Bool.{Bool, true, false, cond, false≢true, _&&_}
+use native.Mathlib.Omega.{arith}
+use native.Mathlib.Nat.{mul-le-mul-left}
+use native.Mathlib.Numerals.{add-one}
+use lib.Dec.{leb, eqb}
+use lib.ListN.{length, getD, drop, drop-of-length-le}
+use lib.Seq.{drop-cons}
+use borrow.Author.Tests.{le-leb, lt-leb, lt-ltb, le-ltb, leb-true}
+use Rattle.pieces.proofs.Tests.{and-right, and-false}
+use Rattle.numeral.specs.Numeral.{digitValue, areDigits, digitsFrom, numeralFrom, numeral, leadingZero, decimal, h16}
+use Rattle.numeral.specs.declared.Number.{Number}
+use Rattle.numeral.specs.declared.Number.the-variants.{Value, Malformed}
+
+-- one digit more
+pub value-fits : (base max v d : ℕ) → base ≤ 16 → max < 2 ^ 32 → v ≤ max → d < 256 → v * base + d < 2 ^ 37
+value-fits base max v d hb hm hv hd = omega (arith, mul-le-mul-left v hb)
+
+pub value-grows : (base v : ℕ) (s : List ℕ) → 1 ≤ base → v ≤ digitsFrom base v s
+unfolding digitsFrom
+value-grows base v [] h = omega arith
+value-grows base v (c ∷ s) h =
+    omega (arith, value-grows base (v * base + digitValue c) s h, mul-le-mul-left v h)
+
+module _ (base max v : ℕ) (s : List ℕ) where
+  -- a number above max
+  pub above-max : 1 ≤ base → max < v → numeralFrom base max v s ≡ Malformed
+  unfolding numeralFrom
+  above-max hb h =
+      let g : max < digitsFrom base v s = omega (arith, value-grows base v s hb) in
+      simp (lt-leb _ _ g, and-false)
+
+  module _ (i : ℕ) where
+    -- the next byte is a digit
+    pub next-digit : i < length s → digitValue (getD s i 0) < base
+        → numeralFrom base max v (drop i s) ≡ numeralFrom base max (v * base + digitValue (getD s i 0)) (drop (i + 1) s)
+    unfolding numeralFrom areDigits digitsFrom
+    next-digit h d = rw (add-one, drop-cons s i 0, lt-ltb _ _ d)
+
+    -- the next byte is none
+    pub no-digit : i < length s → base ≤ digitValue (getD s i 0) → numeralFrom base max v (drop i s) ≡ Malformed
+    unfolding numeralFrom areDigits
+    no-digit h d = rw (drop-cons s i 0, le-ltb _ _ d)
+
+module _ (base max : ℕ) where
+  pub numeral-empty : (s : List ℕ) → length s ≡ 0 → numeral base max s ≡ Malformed
+  unfolding numeral
+  numeral-empty [] e = refl
+  numeral-empty (c ∷ s) e = let z : ⊥ = omega arith in absurd z
+
+  pub numeral-start : (s : List ℕ) → (length s ≡ 0 → ⊥) → numeralFrom base max 0 s ≡ numeral base max s
+  unfolding numeral
+  numeral-start [] h = absurd (h refl)
+  numeral-start (c ∷ s) h = refl
+
+  -- the end, or a number that was read to its end
+  pub numeral-end : (v i : ℕ) (s : List ℕ) → length s ≤ i → v ≤ max → numeralFrom base max v (drop i s) ≡ Value v
+  unfolding numeralFrom areDigits digitsFrom
+  numeral-end v i s h k = rw (drop-of-length-le s h, le-leb _ _ k)
+
+pub zero-short : (s : List ℕ) → length s < 2 → leadingZero s ≡ false
+unfolding leadingZero
+zero-short [] h = refl
+zero-short (c ∷ []) h = refl
+zero-short (c ∷ d ∷ s) h = let z : ⊥ = omega arith in absurd z
+
+pub zero-first : (s : List ℕ) → 2 ≤ length s → leadingZero s ≡ eqb (getD s 0 0) 48
+unfolding leadingZero
+zero-first [] h = let z : ⊥ = omega arith in absurd z
+zero-first (c ∷ []) h = let z : ⊥ = omega arith in absurd z
+zero-first (c ∷ d ∷ s) h = refl
+
+cond-value : (b : Bool) (x v : ℕ) → cond b (Value x) Malformed ≡ Value v → (b ≡ true) × (x ≡ v)
+cond-value true x v e = (refl, cc)
+cond-value false x v e = let z : _≡_ {A = ℕ} 0 1 = cc in let a : ⊥ = omega arith in absurd a
+
+-- a number that was read is at most max
+pub numeral-le : (base max : ℕ) (s : List ℕ) (v : ℕ) → numeral base max s ≡ Value v → v ≤ max
+unfolding numeral numeralFrom
+numeral-le base max [] v e = absurd (false≢true (cond-value false 0 v e .0))
+numeral-le base max (c ∷ s) v e =
+    let d : Bool = areDigits base (c ∷ s) in
+    let x : ℕ = digitsFrom base 0 (c ∷ s) in
+    let r = cond-value (d && leb x max) x v e in
+    omega (arith, r .1, leb-true x max (and-right d (leb x max) (r .0)))
+
+well-formed : (b : Bool) (n : Number) (v : ℕ) → cond b n Malformed ≡ Value v → n ≡ Value v
+well-formed true n v e = e
+well-formed false n v e = cc
+
+not-malformed : (b : Bool) (n : Number) (v : ℕ) → cond b Malformed n ≡ Value v → n ≡ Value v
+not-malformed true n v e = cc
+not-malformed false n v e = e
+
+pub decimal-le : (max : ℕ) (s : List ℕ) (v : ℕ) → decimal max s ≡ Value v → v ≤ max
+unfolding decimal
+decimal-le max s v e = numeral-le 10 max s v (not-malformed (leadingZero s) (numeral 10 max s) v e)
+
+pub h16-le : (s : List ℕ) (v : ℕ) → h16 s ≡ Value v → v ≤ 65535
+unfolding h16
+h16-le s v e = numeral-le 16 65535 s v (well-formed (leb (length s) 4) (numeral 16 65535 s) v e)

@@ -1,0 +1,56 @@
+-- `digit` is `digitValue`: the three ranges are tested in its order.
+use native.Mathlib.Omega.{arith}
+use borrow.Author.Needs.{needs}
+use Rattle.pieces.proofs.Tests.{within-low}
+use Rattle.numeral.specs.Numeral.{digitValue}
+use Rattle.numeral.proofs.digit.Statement.{statement}
+use Rattle.numeral.proofs.digit.Tie as tie
+
+between-requires : tie.Need-between-requires
+between-requires c κs = search needs
+
+sub-result : tie.Need-sub-result
+sub-result c = within-low 48 57 _ (cc)
+
+returns : tie.Need-returns
+unfolding digitValue
+returns c = cc
+
+between-requires-2 : tie.Need-between-requires-2
+between-requires-2 c κs = search needs
+
+sub-result-2 : tie.Need-sub-result-2
+sub-result-2 c = omega (arith, within-low 65 70 (c .before .before .before .before .args .c) (cc))
+
+returns-2 : tie.Need-returns-2
+unfolding digitValue
+returns-2 c = cc
+
+between-requires-3 : tie.Need-between-requires-3
+between-requires-3 c κs = search needs
+
+sub-result-3 : tie.Need-sub-result-3
+sub-result-3 c = omega (arith, within-low 97 102 (c .before .before .before .before .before .before .args .c) (cc))
+
+returns-3 : tie.Need-returns-3
+unfolding digitValue
+returns-3 c = rw (← (c .before .before .before .before .before .between .ensures), c .before .before .before .before .if1 .left, ← (c .before .before .before .between2 .ensures), c .before .before .if2 .left, ← (c .before .between3 .ensures), c .if3 .taken)
+
+returns-4 : tie.Need-returns-4
+unfolding digitValue
+returns-4 c = cc
+
+pub digit-spec : {M : Type 1} → statement M
+digit-spec =
+    tie.close
+    (tie.spec
+    between-requires
+    sub-result
+    returns
+    between-requires-2
+    sub-result-2
+    returns-2
+    between-requires-3
+    sub-result-3
+    returns-3
+    returns-4)

@@ -1,0 +1,96 @@
+-- `read_numeral` is `numeral`: the number before i, continued by the rest of s from i on, is what s stands for. It never passes max, so no sum wraps.
+use Prim.Native.Nat.{_*_, _+_, _≤_, _-_}
+use mathlib.Core.Path.{_≡_, sym, _∙_}
+use native.Mathlib.Omega.{arith}
+use lib.ListN.{getD, length, drop}
+use denote.Ref.{now}
+use borrow.Author.Needs.{needs}
+use Rattle.numeral.specs.Numeral.{digitValue, numeral, numeralFrom}
+use Rattle.numeral.proofs.Laws.{value-fits, above-max, next-digit, no-digit, numeral-empty, numeral-start, numeral-end}
+use Rattle.numeral.proofs.read_numeral.Statement.{statement}
+use Rattle.numeral.proofs.read_numeral.Tie as tie
+
+abbrev Inv-loop : tie.InvT-loop
+Inv-loop s base max v₀ i₀ v i = (i ≤ length s) × (v ≤ max) × (numeralFrom base max v (drop i s) ≡ numeral base max s)
+
+abbrev μ-loop : tie.MeasureT-loop
+μ-loop s base max v₀ i₀ v i = length s - i
+
+returns : tie.Need-returns Inv-loop μ-loop
+returns c = cc (numeral-empty _ _ _ (c .if1 .taken))
+
+loop-holds : tie.Need-loop-holds Inv-loop μ-loop
+loop-holds c = (omega arith, omega arith, numeral-start _ _ _ (c .if1 .left))
+
+shared-slice-read-digit : tie.Need-shared-slice-read-digit Inv-loop μ-loop
+shared-slice-read-digit c = search needs
+
+digit-requires : tie.Need-digit-requires Inv-loop μ-loop
+digit-requires c κs = search needs
+
+cast-d : tie.Need-cast-d Inv-loop μ-loop
+cast-d c = search needs
+
+returns-2 : tie.Need-returns-2 Inv-loop μ-loop
+returns-2 c =
+    let a = c .before .before .before .before .before .before .before .args in
+    let l = c .before .before .before .before .loop in
+    sym (no-digit (a .base) (a .max) (l .v) (now (a .s)) (l .i) (omega arith) (omega arith)) ∙ l .inv .2
+
+mul-v : tie.Need-mul-v Inv-loop μ-loop
+mul-v c =
+    let a = c .before .before .before .before .before .before .before .args in
+    let l = c .before .before .before .before .loop in
+    omega (arith, value-fits (a .base) (a .max) (l .v) 0 (omega arith) (omega arith) (omega arith) (omega arith))
+
+add-v : tie.Need-add-v Inv-loop μ-loop
+add-v c =
+    let a = c .before .before .before .before .before .before .before .args in
+    let l = c .before .before .before .before .loop in
+    omega (arith, value-fits (a .base) (a .max) (l .v) (c .before .digit .result) (omega arith) (omega arith) (omega arith) (omega arith))
+
+returns-3 : tie.Need-returns-3 Inv-loop μ-loop
+returns-3 c =
+    let a = c .before .before .before .before .before .before .before .before .args in
+    let l = c .before .before .before .before .before .loop in
+    sym (above-max (a .base) (a .max) (l .v * a .base + digitValue (getD (now (a .s)) (l .i) 0)) (drop (l .i + 1) (now (a .s))) (omega arith) (omega arith))
+    ∙ sym (next-digit (a .base) (a .max) (l .v) (now (a .s)) (l .i) (omega arith) (omega arith))
+    ∙ l .inv .2
+
+add-i : tie.Need-add-i Inv-loop μ-loop
+add-i c = search needs
+
+loop-less : tie.Need-loop-less Inv-loop μ-loop
+loop-less c = search needs
+
+loop-again : tie.Need-loop-again Inv-loop μ-loop
+loop-again c =
+    let a = c .before .before .before .before .before .before .before .before .args in
+    let l = c .before .before .before .before .before .loop in
+    (omega arith, omega arith, rw (c .before .before .digit .ensures) (sym (next-digit (a .base) (a .max) (l .v) (now (a .s)) (l .i) (omega arith) (omega arith)) ∙ l .inv .2))
+
+returns-4 : tie.Need-returns-4 Inv-loop μ-loop
+returns-4 c =
+    let a = c .before .before .before .before .args in
+    let l = c .before .loop in
+    sym (numeral-end (a .base) (a .max) (l .v) (l .i) (now (a .s)) (omega arith) (omega arith)) ∙ l .inv .2
+
+pub read-numeral-spec : {M : Type 1} → statement M
+read-numeral-spec =
+    tie.close
+    (tie.spec
+    Inv-loop
+    μ-loop
+    returns
+    loop-holds
+    shared-slice-read-digit
+    digit-requires
+    cast-d
+    returns-2
+    mul-v
+    add-v
+    returns-3
+    add-i
+    loop-less
+    loop-again
+    returns-4)

@@ -1,0 +1,5 @@
+pub mod Tests
+pub mod Found
+pub mod Scans
+pub mod Pieces
+pub mod Fronts

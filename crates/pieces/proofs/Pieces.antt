@@ -1,0 +1,74 @@
+-- Laws of a text cut into pieces: what a loop that looks for the end of the first piece uses, and what there is of pieces at all.
+use Prim.Native.Nat.{ℕ, suc, _+_, _-_, _≤_, _<_}
+use mathlib.Core.Path.{_≡_, refl, _∙_}
+use mathlib.Core.List.{List, [], _∷_, _++_, append-assoc, append-nil}
+use mathlib.Core.Bool.{Bool, true, false, cond}
+use native.Mathlib.Omega.{arith}
+use native.Mathlib.Numerals.{add-one}
+use lib.Dec.{eqb}
+use lib.ListN.{length, getD, take, drop, drop-of-length-le, length-drop}
+use lib.Seq.{take-suc, take-all, drop-cons}
+use borrow.Author.Tests.{eq-eqb, ne-eqb}
+use Rattle.pieces.specs.Split.{joinFirst, split, FirstPiece}
+
+join-nil : (b : Bool) (a : List ℕ) (r : List (List ℕ))
+    → joinFirst [] (cond b ([] ∷ r) (joinFirst a r)) ≡ cond b ([] ∷ r) (joinFirst a r)
+unfolding joinFirst
+join-nil true a r = refl
+join-nil false a [] = refl
+join-nil false a (p ∷ ps) = refl
+
+pub split-start : (sep : ℕ) (s : List ℕ) → joinFirst [] (split sep s) ≡ split sep s
+unfolding split joinFirst
+split-start sep [] = refl
+split-start sep (c ∷ s) = join-nil (eqb c sep) (c ∷ []) (split sep s)
+
+join-join : (a b : List ℕ) (r : List (List ℕ)) → joinFirst a (joinFirst b r) ≡ joinFirst (a ++ b) r
+unfolding joinFirst
+join-join a b [] = refl
+join-join a b (p ∷ ps) = rw append-assoc
+
+-- there is a first piece
+split-cons₁ : (b : Bool) (a : List ℕ) (r : List (List ℕ))
+    → (p : List ℕ) × (ps : List (List ℕ)) × (cond b ([] ∷ r) (joinFirst a r) ≡ p ∷ ps)
+unfolding joinFirst
+split-cons₁ true a r = ([], r, refl)
+split-cons₁ false a [] = (a, [], refl)
+split-cons₁ false a (p ∷ ps) = (a ++ p, ps, refl)
+
+pub split-cons : (sep : ℕ) (s : List ℕ) → (p : List ℕ) × (ps : List (List ℕ)) × (split sep s ≡ p ∷ ps)
+unfolding split
+split-cons sep [] = ([], [], refl)
+split-cons sep (c ∷ s) = split-cons₁ (eqb c sep) (c ∷ []) (split sep s)
+
+module _ (sep : ℕ) (s : List ℕ) (n : ℕ) where
+  -- the first piece goes on past n
+  pub split-on : n < length s → (getD s n 0 ≡ sep → ⊥) → split sep s ≡ joinFirst (take n s) (split sep (drop n s))
+      → split sep s ≡ joinFirst (take (n + 1) s) (split sep (drop (n + 1) s))
+  unfolding split
+  split-on h ne e =
+      e ∙ rw (add-one, drop-cons s n 0 h, ne-eqb _ _ ne, take-suc s n 0 h) (join-join (take n s) (getD s n 0 ∷ []) (split sep (drop (suc n) s)))
+
+  -- it ends at n, at a separator
+  pub split-found : n < length s → getD s n 0 ≡ sep → split sep s ≡ joinFirst (take n s) (split sep (drop n s)) → FirstPiece sep s n
+  unfolding split joinFirst
+  split-found h q e =
+      record {
+        fits = omega arith;
+        last = λ k. let z : ⊥ = omega arith in absurd z;
+        more = λ k. e ∙ rw (add-one, drop-cons s n 0 h, eq-eqb _ _ q, append-nil);
+      }
+
+  -- it ends at n, at the end of s
+  pub split-end : n ≤ length s → length s ≤ n → split sep s ≡ joinFirst (take n s) (split sep (drop n s)) → FirstPiece sep s n
+  unfolding split joinFirst
+  split-end h k e =
+      record {
+        fits = h;
+        last = λ _. e ∙ rw (drop-of-length-le s k, append-nil, take-all n s k);
+        more = λ l. let z : ⊥ = omega arith in absurd z;
+      }
+
+-- what `&s[a..]` is
+pub rest-is : (s : List ℕ) (a : ℕ) → take (length s - a) (drop a s) ≡ drop a s
+rest-is s a = take-all (length s - a) (drop a s) (omega (arith, length-drop a s))

@@ -1,0 +1,30 @@
+-- Laws of tests that are joined by "and", and of a byte from low to high: by cases on the first test.
+use Prim.Native.Nat.{ℕ, _≤_}
+use mathlib.Core.Path.{_≡_, refl}
+use mathlib.Core.Bool.{Bool, true, false, false≢true, _&&_}
+use lib.Dec.{leb}
+use borrow.Author.Tests.{leb-true}
+use Rattle.address.specs.Lists.{within}
+
+pub and-left : (a b : Bool) → a && b ≡ true → a ≡ true
+and-left true b e = refl
+and-left false b e = e
+
+pub and-right : (a b : Bool) → a && b ≡ true → b ≡ true
+and-right true b e = e
+and-right false b e = absurd (false≢true e)
+
+pub and-true : (a : Bool) → a && true ≡ a
+and-true true = refl
+and-true false = refl
+
+pub and-false : (a : Bool) → a && false ≡ false
+and-false true = refl
+and-false false = refl
+
+module _ (low high c : ℕ) (e : within low high c ≡ true) where
+  pub within-low : low ≤ c
+  within-low = leb-true low c (and-left (leb low c) (leb c high) e)
+
+  pub within-high : c ≤ high
+  within-high = leb-true c high (and-right (leb low c) (leb c high) e)
