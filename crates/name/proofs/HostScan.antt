@@ -3,21 +3,19 @@
 use mathlib.Core.Bool.{Bool, false, true, not, cond, _&&_, _||_, false≢true}
 use mathlib.Core.Path.{_≡_, refl, sym, ap, _∙_}
 use mathlib.Core.List.{List, [], _∷_, _++_, append-nil, append-assoc}
-use Prim.Native.Nat.{ℕ, suc, _+_, _-_, _≤_}
+use Prim.Native.Nat.{ℕ, suc, _+_, _-_}
 use native.Mathlib.Omega.{arith}
-use borrow.Author.Tests.{eqb-true, leb-true, le-leb}
+use borrow.Author.Tests.{eqb-true, le-leb}
 use lib.Dec.{leb, eqb}
 use lib.ListN.{length, getD, length-append}
 use lib.Seq.{getD-append-add}
 use Rattle.address.specs.Lists.{within, every}
 use Rattle.pieces.specs.Split.{joinFirst, split}
+use Rattle.pieces.proofs.Pieces.{split-start}
+use Rattle.pieces.proofs.Tests.{and-false, within-low, within-high}
 use Rattle.name.specs.Host.{isLabelByte, isLabel, isHostName}
 use Rattle.name.specs.Texts.{goodHost}
 use Rattle.name.specs.HostScan.{letterOrDigit, labelsFrom}
-
-and-false : (b : Bool) → (b && false) ≡ false
-and-false true = refl
-and-false false = refl
 
 and-assoc : (a b c : Bool) → (a && (b && c)) ≡ (a && b && c)
 and-assoc true b c = refl
@@ -64,16 +62,6 @@ unfolding every joinFirst
 bad-joined q [] f = rw (← append-nil q, f []) refl
 bad-joined q (x ∷ ls) f = rw (f x) refl
 
-join-nil : (s : List ℕ) → joinFirst [] (split 46 s) ≡ split 46 s
-unfolding joinFirst split
-join-nil [] = refl
-join-nil (c ∷ s) = go (eqb c 46) (split 46 s)
-  where
-    go : (v : Bool) (ls : List (List ℕ)) → joinFirst [] (cond v ([] ∷ ls) (joinFirst (c ∷ []) ls)) ≡ cond v ([] ∷ ls) (joinFirst (c ∷ []) ls)
-    go true ls = refl
-    go false [] = refl
-    go false (x ∷ ls) = refl
-
 join-join : (p q : List ℕ) (ls : List (List ℕ)) → joinFirst p (joinFirst q ls) ≡ joinFirst (p ++ q) ls
 unfolding joinFirst
 join-join p q [] = refl
@@ -112,20 +100,6 @@ other-byte c h e = go (within 0x61 0x7A c) (within 0x30 0x39 c) (within 0x41 0x5
     go false true w x y z k = absurd (let i : _≡_ {A = Bool} true false = k in let n : _≡_ {A = ℕ} 0 1 = cc in omega arith)
     go false false true x y z k = refl
     go false false false x y z k = rw h refl
-
-and-left : (a b : Bool) → (a && b) ≡ true → a ≡ true
-and-left true b e = refl
-and-left false b e = e
-
-and-right : (a b : Bool) → (a && b) ≡ true → b ≡ true
-and-right true b e = e
-and-right false b e = absurd (false≢true e)
-
-within-low : (a b c : ℕ) → within a b c ≡ true → a ≤ c
-within-low a b c e = leb-true a c (and-left (leb a c) (leb c b) e)
-
-within-high : (a b c : ℕ) → within a b c ≡ true → c ≤ b
-within-high a b c e = leb-true c b (and-right (leb a c) (leb c b) e)
 
 letter-byte : (c : ℕ) → letterOrDigit c ≡ true → isLabelByte c ≡ true
 unfolding letterOrDigit isLabelByte
@@ -204,7 +178,7 @@ scan (c ∷ s) p o = by-byte (eqb c 46) (eqb c 45) (letterOrDigit c) refl refl r
         (cond v (leb 1 (length p) && labelsFrom (length p + 1) true s) (w && labelsFrom (length p + 1) false s))
         ≡ (every isLabel (joinFirst p (cond u ([] ∷ split 46 s) (joinFirst (c ∷ []) (split 46 s)))) && (small c && every small s))
     by-byte true v w x y z start more =
-        rw (append-nil p, label-is p o, dot-small c x, start, join-nil s)
+        rw (append-nil p, label-is p o, dot-small c x, start, split-start 46 s)
         (and-assoc (within 1 63 (length p) && not (hyphenLast p)) (every isLabel (split 46 s)) (every small s))
     by-byte false true w x y z start more = rw (join-join p (c ∷ []) (split 46 s)) (hyphen p o y more)
     by-byte false false true x y z start more =
@@ -215,5 +189,5 @@ scan (c ∷ s) p o = by-byte (eqb c 46) (eqb c 45) (letterOrDigit c) refl refl r
 pub host-scan : (s : List ℕ) → goodHost s ≡ (leb (length s) 253 && labelsFrom 0 false s)
 unfolding goodHost isHostName
 host-scan s =
-    sym (ap (λ (b : Bool). leb (length s) 253 && b) (scan s [] opened-nil ∙ ap (λ (ls : List (List ℕ)). every isLabel ls && every small s) (join-nil s))
+    sym (ap (λ (b : Bool). leb (length s) 253 && b) (scan s [] opened-nil ∙ ap (λ (ls : List (List ℕ)). every isLabel ls && every small s) (split-start 46 s))
     ∙ and-assoc (leb (length s) 253) (every isLabel (split 46 s)) (every small s))

@@ -1,6 +1,330 @@
+// Handles, names and host names: what they may hold, and how they are folded and compared.
+//
+// The bytes of a handle, a name or a host name are tested in runs of a fixed size with no early way out, which the compiler turns into
+// vector instructions.
+ghost use mathlib.Core.Path.{_≡_};
+ghost use mathlib.Core.Bool.{false, not, _&&_};
+ghost use mathlib.Core.List.{map};
+ghost use Prim.Native.Nat.{_+_, _-_, _*_, _≤_, _<_};
+ghost use lib.Dec.{eqb};
+ghost use lib.ListN.{length};
+ghost use Rattle.address.specs.Lists.{within, every};
+ghost use Rattle.name.specs.Texts.{goodText, goodHost, textByte};
+ghost use Rattle.name.specs.Host.{fold, withoutFinalDot};
+ghost use Rattle.name.specs.Compare.{foldIf, alike};
+ghost use Rattle.name.specs.HostScan.{letterOrDigit};
+ghost use Rattle.name.specs.Run.{run, textAt, mayFollow, followAt};
+
 // What a text of the registry is: a handle (field 21), a name (field 22), or the host name in field 22 of records 13 and 14.
 pub enum Text {
     Handle,
     Name,
     Host,
+}
+
+// Whether the n bytes from at on are from low to 7E, with no asterisk.
+fn text_run(s: &[u8], low: u8, at: usize, n: usize) -> bool
+    requires { ⌜ at + n ≤ length (now s) ⌝ }
+    ensures { λ r. ⌜ r ≡ run (textAt low (now (s .entry))) at n ⌝ }
+{
+    let mut good = true;
+    let mut i: usize = 0;
+    while i < n {
+        let b = s[at + i];
+        good = good & (low <= b) & (b <= 0x7E) & (b != 0x2A);
+        i += 1;
+    }
+    good
+}
+
+// The same of all bytes, by the first n and the last n, which overlap or touch.
+fn text_ends(s: &[u8], low: u8, n: usize) -> bool
+    requires { ⌜ (n ≤ length (now s)) × (length (now s) ≤ n + n) ⌝ }
+    ensures { λ r. ⌜ r ≡ every (textByte low) (now (s .entry)) ⌝ }
+{
+    let first = text_run(s, low, 0, n);
+    let last = text_run(s, low, s.len() - n, n);
+    first & last
+}
+
+// Whether s is a handle: 1 to 64 bytes from 21 to 7E, with no asterisk. It is not one function with the next, given the lowest byte,
+// so that each is called from one place and is made a part of its caller.
+pub fn handle_ok(s: &[u8]) -> bool
+    ensures { λ r. ⌜ r ≡ goodText 0x21 (now (s .entry)) ⌝ }
+{
+    let n = s.len();
+    if n < 1 {
+        return false;
+    }
+    if 64 < n {
+        return false;
+    }
+    if n < 4 {
+        return text_run(s, 0x21, 0, n);
+    }
+    if n < 8 {
+        return text_ends(s, 0x21, 4);
+    }
+    if n <= 16 {
+        return text_ends(s, 0x21, 8);
+    }
+    if n <= 32 {
+        return text_ends(s, 0x21, 16);
+    }
+    text_ends(s, 0x21, 32)
+}
+
+// Whether s is a name: 1 to 64 bytes from 20 to 7E, with no asterisk.
+pub fn name_ok(s: &[u8]) -> bool
+    ensures { λ r. ⌜ r ≡ goodText 0x20 (now (s .entry)) ⌝ }
+{
+    let n = s.len();
+    if n < 1 {
+        return false;
+    }
+    if 64 < n {
+        return false;
+    }
+    if n < 4 {
+        return text_run(s, 0x20, 0, n);
+    }
+    if n < 8 {
+        return text_ends(s, 0x20, 4);
+    }
+    if n <= 16 {
+        return text_ends(s, 0x20, 8);
+    }
+    if n <= 32 {
+        return text_ends(s, 0x20, 16);
+    }
+    text_ends(s, 0x20, 32)
+}
+
+fn letter_or_digit(b: u8) -> bool
+    ensures { λ r. ⌜ r ≡ letterOrDigit b ⌝ }
+{
+    if 0x61 <= b {
+        return b <= 0x7A;
+    }
+    if 0x30 <= b {
+        return b <= 0x39;
+    }
+    false
+}
+
+// Whether y may follow x in a host name.
+fn may_follow(x: u8, y: u8) -> bool
+    ensures { λ r. ⌜ r ≡ mayFollow x y ⌝ }
+{
+    let letter = (0x61 <= y) & (y <= 0x7A);
+    let digit = (0x30 <= y) & (y <= 0x39);
+    let hyphen = (y == 0x2D) & (x != 0x2E);
+    let dot = (y == 0x2E) & (x != 0x2E) & (x != 0x2D);
+    letter | digit | hyphen | dot
+}
+
+// Whether each of the n bytes from at on may be followed by the next one.
+fn host_run(s: &[u8], at: usize, n: usize) -> bool
+    requires { ⌜ at + n < length (now s) ⌝ }
+    ensures { λ r. ⌜ r ≡ run (followAt (now (s .entry))) at n ⌝ }
+{
+    let mut good = true;
+    let mut i: usize = 0;
+    while i < n {
+        let j = at + i;
+        good = good & may_follow(s[j], s[j + 1]);
+        i += 1;
+    }
+    good
+}
+
+// The same of all bytes but the last, by the first n and the last n of them, which overlap or touch.
+fn host_ends(s: &[u8], n: usize) -> bool
+    requires { ⌜ (n < length (now s)) × (length (now s) ≤ n + n + 1) ⌝ }
+    ensures { λ r. ⌜ r ≡ run (followAt (now (s .entry))) 0 (length (now (s .entry)) - 1) ⌝ }
+{
+    let first = host_run(s, 0, n);
+    let last = host_run(s, s.len() - 1 - n, n);
+    first & last
+}
+
+// A size of which two runs cover n places. It comes from a function so that the compiler does not know it: unrolled, a run over
+// pairs of neighbours becomes worse code than a loop.
+fn run_size(n: usize) -> usize
+    requires { ⌜ (4 ≤ n) × (n ≤ 64) ⌝ }
+    ensures { λ r. ⌜ (r ≤ n) × (n ≤ r + r) ⌝ }
+{
+    if n < 8 {
+        return 4;
+    }
+    if n <= 16 {
+        return 8;
+    }
+    if n <= 32 {
+        return 16;
+    }
+    32
+}
+
+// Whether each byte of a name of 1 to 64 bytes may be followed by the next one.
+fn host_pairs(s: &[u8]) -> bool
+    requires { ⌜ (1 ≤ length (now s)) × (length (now s) ≤ 64) ⌝ }
+    ensures { λ r. ⌜ r ≡ run (followAt (now (s .entry))) 0 (length (now (s .entry)) - 1) ⌝ }
+{
+    let n = s.len() - 1;
+    if n < 4 {
+        return host_run(s, 0, n);
+    }
+    host_ends(s, run_size(n))
+}
+
+// The same as host_ok, of 1 to 63 bytes: no label can be too long.
+fn short_host_ok(s: &[u8]) -> bool
+    requires { ⌜ (1 ≤ length (now s)) × (length (now s) ≤ 63) ⌝ }
+    ensures { λ r. ⌜ r ≡ goodHost (now (s .entry)) ⌝ }
+{
+    if !letter_or_digit(s[0]) {
+        return false;
+    }
+    if !letter_or_digit(s[s.len() - 1]) {
+        return false;
+    }
+    host_pairs(s)
+}
+
+// Whether a label of so many bytes, the last one a hyphen or not, may end.
+fn label_ok(label: usize, hyphen: bool) -> bool
+    ensures { λ r. ⌜ r ≡ (within 1 63 label && not hyphen) ⌝ }
+{
+    (1 <= label) & (label <= 63) & !hyphen
+}
+
+// The same as host_ok, byte by byte.
+fn long_host_ok(s: &[u8]) -> bool
+    ensures { λ r. ⌜ r ≡ goodHost (now (s .entry)) ⌝ }
+{
+    if 253 < s.len() {
+        return false;
+    }
+    let mut label: usize = 0;
+    let mut hyphen = false;
+    let mut i: usize = 0;
+    while i < s.len() {
+        let b = s[i];
+        if b == 0x2E {
+            if !label_ok(label, hyphen) {
+                return false;
+            }
+            label = 0;
+            hyphen = false;
+        } else if b == 0x2D {
+            if label < 1 {
+                return false;
+            }
+            label += 1;
+            hyphen = true;
+        } else {
+            if !letter_or_digit(b) {
+                return false;
+            }
+            label += 1;
+            hyphen = false;
+        }
+        i += 1;
+    }
+    label_ok(label, hyphen)
+}
+
+// Whether s is a host name in lower case.
+pub fn host_ok(s: &[u8]) -> bool
+    ensures { λ r. ⌜ r ≡ goodHost (now (s .entry)) ⌝ }
+{
+    let n = s.len();
+    if n < 1 {
+        return long_host_ok(s);
+    }
+    if 63 < n {
+        return long_host_ok(s);
+    }
+    short_host_ok(s)
+}
+
+// A capital as the small letter.
+pub fn folded(c: u8) -> u8
+    ensures { λ r. ⌜ r ≡ fold c ⌝ }
+{
+    if (0x41 <= c) & (c <= 0x5A) {
+        return c + 0x20;
+    }
+    c
+}
+
+// Folds s where it stands.
+pub fn fold_in(s: &mut [u8])
+    ensures { λ r. ⌜ now (s .exit) ≡ map fold (now (s .entry)) ⌝ }
+{
+    let mut i: usize = 0;
+    while i < s.len() {
+        s[i] = folded(s[i]);
+        i += 1;
+    }
+}
+
+// One final dot dropped.
+pub fn without_final_dot(s: &[u8]) -> &[u8]
+    ensures { λ r. ⌜ now r ≡ withoutFinalDot (now (s .entry)) ⌝ }
+{
+    let n = s.len();
+    if n == 0 {
+        return s;
+    }
+    if s[n - 1] == 0x2E {
+        return &s[..n - 1];
+    }
+    s
+}
+
+// Whether two bytes are the same, after folding where fold says so. Few pairs need to be folded.
+fn same_byte(fold: bool, c: u8, d: u8) -> bool
+    ensures { λ r. ⌜ r ≡ eqb (foldIf fold c) (foldIf fold d) ⌝ }
+{
+    if c == d {
+        return true;
+    }
+    if fold {
+        return folded(c) == folded(d);
+    }
+    false
+}
+
+// Whether a and b are the same bytes, after folding where fold says so. Most texts that differ do so in length, in the last byte
+// or in one of the first.
+pub fn same(fold: bool, a: &[u8], b: &[u8]) -> bool
+    ensures { λ r. ⌜ r ≡ alike fold (now (a .entry)) (now (b .entry)) ⌝ }
+{
+    let n = a.len();
+    if n != b.len() {
+        return false;
+    }
+    if n == 0 {
+        return true;
+    }
+    if !same_byte(fold, a[n - 1], b[n - 1]) {
+        return false;
+    }
+    let mut i: usize = 0;
+    while i < n {
+        if !same_byte(fold, a[i], b[i]) {
+            return false;
+        }
+        i += 1;
+    }
+    true
+}
+
+// Whether a and b are the same bytes.
+pub fn equal(a: &[u8], b: &[u8]) -> bool
+    ensures { λ r. ⌜ r ≡ alike false (now (a .entry)) (now (b .entry)) ⌝ }
+{
+    same(false, a, b)
 }

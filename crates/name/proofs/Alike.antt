@@ -1,0 +1,37 @@
+-- Two texts compared, for a loop that has come to place i: what is left of them decides.
+use mathlib.Core.Path.{_≡_, refl, sym, ap}
+use mathlib.Core.Bool.{Bool, true, false}
+use mathlib.Core.List.{List, [], _∷_}
+use Prim.Native.Nat.{ℕ, zero, suc, _+_, _≤_, _<_}
+use native.Mathlib.Omega.{arith}
+use native.Mathlib.Numerals.{add-one}
+use lib.Dec.{eqb}
+use lib.ListN.{length, getD, drop, drop-of-length-le}
+use lib.Seq.{drop-cons}
+use Rattle.pieces.proofs.Tests.{and-false}
+use Rattle.name.specs.Compare.{foldIf, alike}
+
+module _ (f : Bool) where
+  pub alike-length : (s t : List ℕ) → (length s ≡ length t → ⊥) → false ≡ alike f s t
+  unfolding alike
+  alike-length [] [] h = absurd (h refl)
+  alike-length [] (d ∷ t) h = refl
+  alike-length (c ∷ s) [] h = refl
+  alike-length (c ∷ s) (d ∷ t) h = rw (← alike-length s t (λ e. h (ap suc e))) (sym (and-false (eqb (foldIf f c) (foldIf f d))))
+
+  -- one pair of bytes that differ
+  pub alike-not : (s t : List ℕ) (i : ℕ) → i < length s → i < length t → eqb (foldIf f (getD s i 0)) (foldIf f (getD t i 0)) ≡ false → false ≡ alike f s t
+  unfolding alike
+  alike-not [] t i h k e = absurd (omega arith)
+  alike-not (c ∷ s) [] i h k e = absurd (omega arith)
+  alike-not (c ∷ s) (d ∷ t) zero h k e = rw e
+  alike-not (c ∷ s) (d ∷ t) (suc i) h k e = rw (← alike-not s t i (omega arith) (omega arith) e) (sym (and-false (eqb (foldIf f c) (foldIf f d))))
+
+module _ (f : Bool) (s t : List ℕ) (i : ℕ) where
+  pub alike-on : i < length s → i < length t → eqb (foldIf f (getD s i 0)) (foldIf f (getD t i 0)) ≡ true → alike f (drop i s) (drop i t) ≡ alike f (drop (i + 1) s) (drop (i + 1) t)
+  unfolding alike
+  alike-on h k e = rw (add-one, drop-cons s i 0 h, drop-cons t i 0 k, e)
+
+  pub alike-end : length s ≤ i → length t ≤ i → alike f (drop i s) (drop i t) ≡ true
+  unfolding alike
+  alike-end h k = rw (drop-of-length-le s h, drop-of-length-le t k)

@@ -1,0 +1,145 @@
+-- A host name of at most 63 bytes is one whose bytes may follow each other and that starts and ends with a letter or a digit.
+use mathlib.Core.Path.{_≡_, refl, sym, _∙_, ap}
+use mathlib.Core.Bool.{Bool, true, false, not, cond, _&&_}
+use mathlib.Core.List.{List, [], _∷_}
+use Prim.Native.Nat.{ℕ, zero, suc, _+_, _-_, _≤_, _<_, zero-le, suc-le-suc}
+use borrow.Author.Tests.{le-leb, eqb-true}
+use native.Mathlib.Omega.{arith}
+use native.Mathlib.Numerals.{add-one}
+use lib.Dec.{leb, eqb}
+use lib.ListN.{length, getD}
+use Rattle.address.specs.Lists.{within}
+use Rattle.name.specs.Texts.{goodHost}
+use Rattle.name.specs.HostScan.{letterOrDigit, labelsFrom}
+use Rattle.name.specs.Run.{run, mayFollow, followAt}
+use Rattle.name.proofs.Labels.{host-labels}
+use Rattle.pieces.proofs.Tests.{and-left, and-right}
+use Rattle.name.proofs.Runs.{run-step, run-ends, first-true, true-first, equal-if, and-both}
+
+module _ (s : List ℕ) where
+  pub host-step : (at i : ℕ) (good r : Bool) → good ≡ run (followAt s) at i
+      → r ≡ mayFollow (getD s (at + i) 0) (getD s (at + i + 1) 0) → (good && r) ≡ run (followAt s) at (i + 1)
+  unfolding followAt
+  host-step at i good r e d = rw (run-step, e, d, add-one (at + i))
+
+  pub host-ends : (k : ℕ) → k < length s → length s ≤ k + k + 1
+      → (run (followAt s) 0 k && run (followAt s) (length s - 1 - k) k) ≡ run (followAt s) 0 (length s - 1)
+  host-ends k h l = run-ends (followAt s) k (length s - 1) (omega arith) (omega arith)
+
+-- the bytes after x
+chain : ℕ → List ℕ → Bool
+chain x [] = letterOrDigit x
+chain x (y ∷ ys) = mayFollow x y && chain y ys
+
+-- a label of k bytes so far that ends with x, which is a hyphen or not; or a dot before it
+data After (x k : ℕ) (h : Bool) : Type 0 where
+  letter : letterOrDigit x ≡ true → eqb x 0x2E ≡ false → eqb x 0x2D ≡ false → 1 ≤ k → h ≡ false → After x k h
+  hyphen : x ≡ 0x2D → 1 ≤ k → h ≡ true → After x k h
+  dot : x ≡ 0x2E → k ≡ 0 → h ≡ false → After x k h
+
+module _ (x k : ℕ) (h : Bool) where
+  labels-none : After x k h → k ≤ 63 → (within 1 63 k && not h) ≡ letterOrDigit x
+  unfolding letterOrDigit
+  labels-none (letter l d m p e) q = rw (le-leb 1 k p, le-leb k 63 q, e) (sym l)
+  labels-none (hyphen l p e) q = rw (le-leb 1 k p, le-leb k 63 q, e, l)
+  labels-none (dot l p e) q = rw (p, l)
+
+  module _ (y : ℕ) (bs : List ℕ) (a : After x k h) (q : k < 63) where
+    at-dot : eqb y 0x2E ≡ true → labelsFrom 0 false bs ≡ chain y bs → (within 1 63 k && not h && labelsFrom 0 false bs) ≡ (mayFollow x y && chain y bs)
+    unfolding mayFollow letterOrDigit
+    at-dot d i = go a (eqb-true y 0x2E d)
+      where
+        go : After x k h → y ≡ 0x2E → (within 1 63 k && not h && labelsFrom 0 false bs) ≡ (mayFollow x y && chain y bs)
+        go (letter l d m p e) r = rw (le-leb 1 k p, le-leb k 63 (omega arith), e, i) (rw (r, d, m))
+        go (hyphen l p e) r = rw (le-leb 1 k p, le-leb k 63 (omega arith), e, r, l)
+        go (dot l p e) r = rw (p, r, l)
+
+    at-hyphen : eqb y 0x2D ≡ true → (1 ≤ k → labelsFrom (k + 1) true bs ≡ chain y bs) → (leb 1 k && labelsFrom (k + 1) true bs) ≡ (mayFollow x y && chain y bs)
+    unfolding mayFollow letterOrDigit
+    at-hyphen d i = go a (eqb-true y 0x2D d)
+      where
+        go : After x k h → y ≡ 0x2D → (leb 1 k && labelsFrom (k + 1) true bs) ≡ (mayFollow x y && chain y bs)
+        go (letter l d m p e) r = rw (le-leb 1 k p, i p) (rw (r, d))
+        go (hyphen l p e) r = rw (le-leb 1 k p, i p) (rw (r, l))
+        go (dot l p e) r = rw (p, r, l)
+
+    at-other : (t : Bool) → letterOrDigit y ≡ t → eqb y 0x2E ≡ false → eqb y 0x2D ≡ false
+        → (t ≡ true → labelsFrom (k + 1) false bs ≡ chain y bs)
+        → (letterOrDigit y && labelsFrom (k + 1) false bs) ≡ (mayFollow x y && chain y bs)
+    unfolding mayFollow
+    at-other true e d m i = rw (e, i refl)
+    at-other false e d m i = rw (e, d, m)
+
+labels : (bs : List ℕ) (x k : ℕ) (h : Bool) → After x k h → k + length bs ≤ 63 → labelsFrom k h bs ≡ chain x bs
+unfolding labelsFrom chain
+labels [] x k h a q = labels-none x k h a (omega arith)
+labels (y ∷ ys) x k h a q = by-byte (eqb y 0x2E) (eqb y 0x2D) refl refl (labels ys y)
+  where
+    by-byte : (d m : Bool) → eqb y 0x2E ≡ d → eqb y 0x2D ≡ m
+        → ((k : ℕ) (h : Bool) → After y k h → k + length ys ≤ 63 → labelsFrom k h ys ≡ chain y ys)
+        → cond d (within 1 63 k && not h && labelsFrom 0 false ys)
+        (cond m (leb 1 k && labelsFrom (k + 1) true ys) (letterOrDigit y && labelsFrom (k + 1) false ys))
+        ≡ (mayFollow x y && chain y ys)
+    by-byte true m d e i =
+        at-dot x k h y ys a (omega arith) d (i 0 false (dot (eqb-true y 0x2E d) refl refl) (omega arith))
+    by-byte false true d e i =
+        at-hyphen x k h y ys a (omega arith) e (λ p. i (k + 1) true (hyphen (eqb-true y 0x2D e) (omega arith) refl) (omega arith))
+    by-byte false false d e i =
+        at-other x k h y ys a (omega arith) (letterOrDigit y) refl d e
+        (λ t. i (k + 1) false (letter t d e (omega arith) refl) (omega arith))
+
+-- from the first byte on
+labels-first : (x : ℕ) (s : List ℕ) → length s < 63 → labelsFrom 0 false (x ∷ s) ≡ (letterOrDigit x && chain x s)
+unfolding labelsFrom letterOrDigit
+labels-first x s q = by-byte (eqb x 0x2E) (eqb x 0x2D) (letterOrDigit x) refl refl refl
+  where
+    by-byte : (d m t : Bool) → eqb x 0x2E ≡ d → eqb x 0x2D ≡ m → letterOrDigit x ≡ t
+        → cond d (within 1 63 0 && not false && labelsFrom 0 false s) (cond m (leb 1 0 && labelsFrom 1 true s) (t && labelsFrom 1 false s))
+        ≡ (t && chain x s)
+    by-byte true m t d e l = rw (sym l, eqb-true x 0x2E d)
+    by-byte false true t d e l = rw (sym l, eqb-true x 0x2D e)
+    by-byte false false true d e l = labels s x 1 false (letter l d e (omega arith) refl) (omega arith)
+    by-byte false false false d e l = refl
+
+chain-last : (s : List ℕ) (x : ℕ) → chain x s ≡ true → letterOrDigit (getD (x ∷ s) (length s) 0) ≡ true
+unfolding chain
+chain-last [] x e = e
+chain-last (y ∷ ys) x e = chain-last ys y (and-right (mayFollow x y) (chain y ys) e)
+
+chain-follow : (s : List ℕ) (x : ℕ) → chain x s ≡ true → (i : ℕ) → i < length s → followAt (x ∷ s) i ≡ true
+unfolding chain followAt
+chain-follow [] x e i h = absurd (omega arith)
+chain-follow (y ∷ ys) x e zero h = and-left (mayFollow x y) (chain y ys) e
+chain-follow (y ∷ ys) x e (suc i) h = chain-follow ys y (and-right (mayFollow x y) (chain y ys) e) i (omega arith)
+
+follow-chain : (s : List ℕ) (x : ℕ) → letterOrDigit (getD (x ∷ s) (length s) 0) ≡ true
+    → ((i : ℕ) → i < length s → followAt (x ∷ s) i ≡ true) → chain x s ≡ true
+unfolding chain followAt
+follow-chain [] x e f = e
+follow-chain (y ∷ ys) x e f =
+    and-both (mayFollow x y) (chain y ys) (f 0 (suc-le-suc zero-le)) (follow-chain ys y e (λ i h. f (suc i) (suc-le-suc h)))
+
+chain-run : (s : List ℕ) (x : ℕ) → chain x s ≡ (letterOrDigit (getD (x ∷ s) (length s) 0) && run (followAt (x ∷ s)) 0 (length s))
+chain-run s x = equal-if _ _
+    (λ e. and-both _ _ (chain-last s x e) (true-first (followAt (x ∷ s)) (length s) (chain-follow s x e)))
+    (λ e. follow-chain s x (and-left (letterOrDigit (getD (x ∷ s) (length s) 0)) (run (followAt (x ∷ s)) 0 (length s)) e)
+    (first-true (followAt (x ∷ s)) (length s) (and-right (letterOrDigit (getD (x ∷ s) (length s) 0)) (run (followAt (x ∷ s)) 0 (length s)) e)))
+
+pub host-short : (s : List ℕ) → 1 ≤ length s → length s ≤ 63
+    → goodHost s ≡ (letterOrDigit (getD s 0 0) && (letterOrDigit (getD s (length s - 1) 0) && run (followAt s) 0 (length s - 1)))
+host-short [] h q = absurd (omega arith)
+host-short (x ∷ xs) h q =
+    let d : suc (length xs) - 1 ≡ length xs = omega arith in
+    rw (← host-labels (x ∷ xs) (omega arith), d) (labels-first x xs (omega arith) ∙ ap (λ (b : Bool). letterOrDigit x && b) (chain-run xs x))
+
+-- what each test of a short host name decides
+module _ (s : List ℕ) (h : 1 ≤ length s) (q : length s ≤ 63) where
+  pub host-first : letterOrDigit (getD s 0 0) ≡ false → false ≡ goodHost s
+  host-first e = rw (host-short s h q, e)
+
+  module _ (f : letterOrDigit (getD s 0 0) ≡ true) where
+    pub host-last : letterOrDigit (getD s (length s - 1) 0) ≡ false → false ≡ goodHost s
+    host-last e = rw (host-short s h q, f, e)
+
+    pub host-inner : letterOrDigit (getD s (length s - 1) 0) ≡ true → run (followAt s) 0 (length s - 1) ≡ goodHost s
+    host-inner e = rw (host-short s h q, f, e)

@@ -1,0 +1,73 @@
+-- One step of the reading of a host name byte by byte.
+use mathlib.Core.Path.{_≡_, refl, sym}
+use mathlib.Core.Bool.{Bool, true, false, not, _&&_, _||_}
+use lib.Dec.{leb}
+use mathlib.Core.List.{List}
+use Prim.Native.Nat.{ℕ, suc, _+_, _≤_, _<_}
+use borrow.Author.Tests.{eq-eqb, ne-eqb, le-leb, lt-leb}
+use native.Mathlib.Omega.{arith}
+use lib.ListN.{length, getD, drop, drop-of-length-le}
+use lib.Seq.{drop-cons}
+use Rattle.address.specs.Lists.{within}
+use Rattle.name.specs.Texts.{goodHost}
+use Rattle.name.specs.HostScan.{letterOrDigit, labelsFrom}
+use Rattle.name.proofs.HostScan.{host-scan}
+
+or-false : (b : Bool) → (b || false) ≡ b
+or-false true = refl
+or-false false = refl
+
+module _ (b : ℕ) where
+  pub letter-high : 0x61 ≤ b → leb b 0x7A ≡ letterOrDigit b
+  unfolding letterOrDigit
+  letter-high h = rw (le-leb 0x61 b h, le-leb 0x30 b (omega arith), lt-leb b 0x39 (omega arith)) (sym (or-false (leb b 0x7A)))
+
+  pub letter-digit : b < 0x61 → 0x30 ≤ b → leb b 0x39 ≡ letterOrDigit b
+  unfolding letterOrDigit
+  letter-digit h k = rw (lt-leb 0x61 b h, le-leb 0x30 b k)
+
+  pub letter-none : b < 0x61 → b < 0x30 → false ≡ letterOrDigit b
+  unfolding letterOrDigit
+  letter-none h k = rw (lt-leb 0x61 b h, lt-leb 0x30 b k)
+
+-- what the byte at i makes of a label of k bytes, the last one a hyphen or not
+module _ (k : ℕ) (hyphen : Bool) (s : List ℕ) (i : ℕ) where
+  pub labels-end : length s ≤ i → labelsFrom k hyphen (drop i s) ≡ (within 1 63 k && not hyphen)
+  unfolding labelsFrom
+  labels-end h = rw (drop-of-length-le s h)
+
+  module _ (l : i < length s) where
+    module _ (e : getD s i 0 ≡ 0x2E) where
+      pub dot-bad : (within 1 63 k && not hyphen) ≡ false → labelsFrom k hyphen (drop i s) ≡ false
+      unfolding labelsFrom
+      dot-bad p = rw (drop-cons s i 0, eq-eqb _ _ e, p)
+
+      pub dot-go : (within 1 63 k && not hyphen) ≡ true → labelsFrom k hyphen (drop i s) ≡ labelsFrom 0 false (drop (suc i) s)
+      unfolding labelsFrom
+      dot-go p = rw (drop-cons s i 0, eq-eqb _ _ e, p)
+
+    module _ (n : getD s i 0 ≡ 0x2E → ⊥) where
+      module _ (e : getD s i 0 ≡ 0x2D) where
+        pub hyphen-first : k < 1 → labelsFrom k hyphen (drop i s) ≡ false
+        unfolding labelsFrom
+        hyphen-first p = rw (drop-cons s i 0, ne-eqb _ _ n, eq-eqb _ _ e, lt-leb 1 k p)
+
+        pub hyphen-go : 1 ≤ k → labelsFrom k hyphen (drop i s) ≡ labelsFrom (k + 1) true (drop (suc i) s)
+        unfolding labelsFrom
+        hyphen-go p = rw (drop-cons s i 0, ne-eqb _ _ n, eq-eqb _ _ e, le-leb 1 k p)
+
+      module _ (m : getD s i 0 ≡ 0x2D → ⊥) where
+        pub other-bad : letterOrDigit (getD s i 0) ≡ false → labelsFrom k hyphen (drop i s) ≡ false
+        unfolding labelsFrom
+        other-bad p = rw (drop-cons s i 0, ne-eqb _ _ n, ne-eqb _ _ m, p)
+
+        pub other-go : letterOrDigit (getD s i 0) ≡ true → labelsFrom k hyphen (drop i s) ≡ labelsFrom (k + 1) false (drop (suc i) s)
+        unfolding labelsFrom
+        other-go p = rw (drop-cons s i 0, ne-eqb _ _ n, ne-eqb _ _ m, p)
+
+module _ (s : List ℕ) where
+  pub host-long : 253 < length s → false ≡ goodHost s
+  host-long h = rw (host-scan s, lt-leb (length s) 253 h)
+
+  pub host-labels : length s ≤ 253 → labelsFrom 0 false s ≡ goodHost s
+  host-labels h = rw (host-scan s, le-leb (length s) 253 h)

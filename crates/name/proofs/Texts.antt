@@ -1,0 +1,43 @@
+-- What the runs say of a text.
+use mathlib.Core.Path.{_≡_, refl, _∙_}
+use mathlib.Core.Bool.{Bool, true, false, not, _&&_}
+use mathlib.Core.List.{List}
+use Prim.Native.Nat.{ℕ, _+_, _-_, _≤_, _<_}
+use borrow.Author.Tests.{le-leb, lt-leb}
+use lib.Dec.{leb, eqb}
+use lib.ListN.{length, getD}
+use Rattle.address.specs.Lists.{every}
+use Rattle.name.specs.Texts.{textByte, goodText}
+use Rattle.name.specs.Run.{run, textAt}
+use Rattle.name.proofs.Runs.{run-step, run-ends, run-every}
+
+regroup : (g a b c : Bool) → (g && a && b && c) ≡ (g && (a && b && c))
+regroup true a b c = refl
+regroup false a b c = refl
+
+module _ (low : ℕ) (s : List ℕ) where
+  pub text-step : (at i : ℕ) (good : Bool) → good ≡ run (textAt low s) at i
+      → (good && leb low (getD s (at + i) 0) && leb (getD s (at + i) 0) 126 && not (eqb (getD s (at + i) 0) 42)) ≡ run (textAt low s) at (i + 1)
+  unfolding textAt
+  text-step at i good e = rw (run-step, e) (regroup (run (textAt low s) at i) _ _ _)
+
+  pub text-whole : run (textAt low s) 0 (length s) ≡ every (textByte low) s
+  unfolding textAt
+  text-whole = run-every (textByte low) (textAt low s) s (λ i. refl)
+
+  pub text-ends : (k : ℕ) → k ≤ length s → length s ≤ k + k
+      → (run (textAt low s) 0 k && run (textAt low s) (length s - k) k) ≡ every (textByte low) s
+  text-ends k h l = run-ends (textAt low s) k (length s) h l ∙ text-whole
+
+  pub text-empty : length s < 1 → false ≡ goodText low s
+  unfolding goodText
+  text-empty h = rw (lt-leb 1 (length s) h)
+
+  module _ (h : 1 ≤ length s) where
+    pub text-long : 64 < length s → false ≡ goodText low s
+    unfolding goodText
+    text-long k = rw (le-leb 1 (length s) h, lt-leb (length s) 64 k)
+
+    pub text-every : length s ≤ 64 → every (textByte low) s ≡ goodText low s
+    unfolding goodText
+    text-every k = rw (le-leb 1 (length s) h, le-leb (length s) 64 k)

@@ -1,0 +1,20 @@
+-- `folded`: by whether the byte is a capital; a capital's small letter is a byte.
+use native.Mathlib.Omega.{arith}
+use Rattle.name.specs.Host.{fold}
+use Rattle.pieces.proofs.Tests.{within-high}
+use Rattle.name.proofs.folded.Statement.{statement}
+use Rattle.name.proofs.folded.Tie as tie
+
+add-result : tie.Need-add-result
+add-result c = omega (arith, within-high 0x41 0x5A (c .before .args .c) (c .if1 .taken))
+
+returns : tie.Need-returns
+unfolding fold
+returns c = rw (c .if1 .taken)
+
+returns-2 : tie.Need-returns-2
+unfolding fold
+returns-2 c = rw (c .if1 .left)
+
+pub folded-spec : {M : Type 1} → statement M
+folded-spec = tie.close (tie.spec add-result returns returns-2)
