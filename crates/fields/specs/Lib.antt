@@ -1,2 +1,5 @@
 pub mod Field
+pub mod Place
+pub mod Slices
+pub mod Heads
 pub mod Computing

@@ -1,8 +1,7 @@
 -- The second call's part is empty exactly where there is no record: rule 5 leaves no empty handle or name.
-use Prim.Native.Nat.{ℕ, zero, suc, _≤_, _<_}
+use Prim.Native.Nat.{ℕ, zero, suc, _<_}
 use mathlib.Core.Bool.{Bool, true, false, cond, _&&_}
-use mathlib.Core.Logic.{_↔_}
-use mathlib.Core.Path.{_≡_, refl, sym, subst, ap}
+use mathlib.Core.Path.{_≡_, refl, subst}
 use mathlib.Core.List.{List, [], _∷_}
 use native.Mathlib.Omega.{arith}
 use lib.Dec.{T, leb}
@@ -18,7 +17,7 @@ use Rattle.image.specs.Image.{Image, sound, defective, imageOf}
 use Rattle.image.specs.Part.{recordsOf, textOf, textOfFirst, excerptOf, EmptyPart}
 use Rattle.image.specs.declared.Which.{Which}
 use Rattle.image.specs.declared.Which.the-variants.{Handle, Name}
-use Rattle.image.proofs.Sound.{Accepted, Later, done, next, records-later}
+use Rattle.image.proofs.Sound.{Later, done, next, records-later}
 
 and-both : (a b : Bool) → T (a && b) → T a × T b
 and-both true b t = (tt, t)

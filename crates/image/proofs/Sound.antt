@@ -7,8 +7,9 @@ use native.Mathlib.Omega.{arith}
 use lib.Dec.{T, leb}
 use lib.ListN.{length, drop}
 use Rattle.fields.specs.Field.{Head, field, short, headOf}
-use Rattle.records.specs.Record.{Record, Parsed, whole, malformed, isKnown, recordOf, goodContents}
-use Rattle.records.specs.Judge.{Judged, bad, good, inOrder, crossesAny, judgeParsed, judgeAlone, judgeOverlap, judge}
+use Rattle.records.specs.Record.{Record, goodContents}
+use Rattle.records.specs.Judge.{Judged, bad, good, inOrder, crossesAny, judgeAlone, judge}
+use Rattle.records.proofs.Accepted.{alone-good, overlap-good}
 use Rattle.image.specs.Image.{Next, refused, taken, afterJudged, nextOf, afterNext, sound, defective, imageFrom, startsRight, imageOf}
 
 -- a record without defects 5, 6 and 7 after the earlier ones, the latest first
@@ -24,33 +25,6 @@ pub data Later : List Record → List Record → Type 0 where
 
 -- What reading a sound image shows of its records
 
-of-judged : (earlier : List Record) (j : Judged) (r : Record) → judgeOverlap earlier j ≡ good r → (j ≡ good r) × T (not (crossesAny earlier r))
-of-judged earlier (bad d) r e = absurd (let z : _≡_ {A = ℕ} 0 1 = cc in omega arith)
-of-judged earlier (good q) r e = by-test (crossesAny earlier q) refl e
-  where
-    by-test : (v : Bool) → crossesAny earlier q ≡ v → cond v (bad 7) (good q) ≡ good r → (good q ≡ good r) × T (not (crossesAny earlier r))
-    by-test true p k = absurd (let z : _≡_ {A = ℕ} 0 1 = cc in omega arith)
-    by-test false p k = (k, let f : q ≡ r = cc in subst (λ (x : Record). T (not (crossesAny earlier x))) f (rw p tt))
-
-of-parsed : (earlier : List Record) (p : Parsed) (r : Record) → judgeParsed earlier p ≡ good r → T (goodContents r) × T (inOrder earlier r)
-of-parsed earlier malformed r e = absurd (let z : _≡_ {A = ℕ} 0 1 = cc in omega arith)
-of-parsed earlier (whole q) r e = by-tests (goodContents q) (inOrder earlier q) refl refl e
-  where
-    by-tests :
-        (u v : Bool) → goodContents q ≡ u → inOrder earlier q ≡ v → cond u (cond v (good q) (bad 6)) (bad 5) ≡ good r
-        → T (goodContents r) × T (inOrder earlier r)
-    by-tests true true x y k = let f : q ≡ r = cc in (subst (λ (x : Record). T (goodContents x)) f (rw x tt), subst (λ (x : Record). T (inOrder earlier x)) f (rw y tt))
-    by-tests true false x y k = absurd (let z : _≡_ {A = ℕ} 0 1 = cc in omega arith)
-    by-tests false v x y k = absurd (let z : _≡_ {A = ℕ} 0 1 = cc in omega arith)
-
-of-alone : (earlier : List Record) (tag : ℕ) (contents : List ℕ) (r : Record) → judgeAlone earlier tag contents ≡ good r → T (goodContents r) × T (inOrder earlier r)
-unfolding judgeAlone
-of-alone earlier tag contents r e = by-known (isKnown tag) e
-  where
-    by-known : (u : Bool) → cond u (judgeParsed earlier (recordOf tag contents)) (bad 3) ≡ good r → T (goodContents r) × T (inOrder earlier r)
-    by-known true k = of-parsed earlier (recordOf tag contents) r k
-    by-known false k = absurd (let z : _≡_ {A = ℕ} 0 1 = cc in omega arith)
-
 of-head : (earlier : List Record) (h : Head) (r : Record) (rest : List ℕ) → nextOf earlier h ≡ taken r rest → Accepted earlier r
 of-head earlier short r rest e = absurd (let z : _≡_ {A = ℕ} 0 1 = cc in omega arith)
 of-head earlier (field tag contents left) r rest e = by-judged (judge earlier tag contents) refl e
@@ -59,9 +33,9 @@ of-head earlier (field tag contents left) r rest e = by-judged (judge earlier ta
     by-judged (bad d) p k = absurd (let z : _≡_ {A = ℕ} 0 1 = cc in omega arith)
     by-judged (good q) p k =
         let f : q ≡ r = cc in
-        let o = of-judged earlier (judgeAlone earlier tag contents) r (p ∙ ap good f) in
-        let a = of-alone earlier tag contents r (o .0) in
-        record { contents = a .0; ordered = a .1; apart = o .1 }
+        let o = overlap-good earlier (judgeAlone earlier tag contents) r (p ∙ ap good f) in
+        let a = alone-good earlier tag contents r (o .0) in
+        record { contents = rw (a .good-contents) tt; ordered = rw (a .ordered) tt; apart = rw (o .1) tt }
 
 abbrev Rest : List Record → List Record → Type 0
 Rest earlier records = (later : List Record) × Later earlier later × (records ≡ reverseAux earlier later)

@@ -1,4 +1,6 @@
 pub mod Image
 pub mod Part
+pub mod Place
+pub mod Entries
 pub mod Example
 pub mod Computing

@@ -1,4 +1,5 @@
 pub mod Record
 pub mod Judge
+pub mod Place
 pub mod Examples
 pub mod Computing

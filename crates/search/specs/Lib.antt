@@ -1,2 +1,3 @@
 pub mod Search
+pub mod Standing
 pub mod Computing

@@ -1,0 +1,42 @@
+-- The field at a position of the image, and what a reader passes.
+use mathlib.Core.Bool.{cond}
+use mathlib.Core.List.{List}
+use Prim.Native.Nat.{ℕ, zero, suc, _+_, _-_, _*_, _≤_}
+use mathlib.Core.Path.{_≡_}
+use lib.Dec.{ltb}
+use lib.ListN.{length, getD}
+use lib.Seq.{slice}
+use Rattle.fields.specs.Field.{Head, field, short}
+use Rattle.fields.specs.declared.Field.{Field}
+use Rattle.fields.specs.declared.Field.the-variants.{Whole, Short}
+
+-- the length that a field at a position states
+abbrev pub lengthAt : List ℕ → ℕ → ℕ
+lengthAt s at = getD s (at + 1) 0 * 256 + getD s (at + 2) 0
+
+-- the field at a position of what ends at `end`
+unfoldable pub fieldAt : List ℕ → ℕ → ℕ → Field
+fieldAt s at end =
+    cond (ltb (end - at) 3) Short
+    (cond (ltb (end - (at + 3)) (lengthAt s at)) Short (Whole (getD s at 0) (at + 3) (at + 3 + lengthAt s at)))
+
+-- the bytes that such an answer stands for
+abbrev pub headAt : List ℕ → ℕ → Field → Head
+headAt s end Short = short
+headAt s end (Whole tag from to) = field tag (slice from to s) (slice to end s)
+
+-- a field's contents start after its tag and length, and never pass the end of the enclosing field
+pub record FieldInside (at end start stop : ℕ) : Type 0 where
+  pub after : at + 3 ≡ start
+  pub forward : start ≤ stop
+  pub within : stop ≤ end
+
+-- where the next field starts; a reader that finds no whole field stays
+abbrev pub behind : Field → ℕ → ℕ
+behind (Whole tag start end) at = end
+behind Short at = at
+
+-- the position n fields on
+unfoldable pub passed : List ℕ → ℕ → ℕ → ℕ
+passed s zero at = at
+passed s (suc n) at = passed s n (behind (fieldAt s at (length s)) at)

@@ -1,0 +1,24 @@
+-- The part from start up to end of the span has the text that the span promises.
+use mathlib.Core.Path.{_∙_}
+use borrow.Author.Needs.{needs}
+use Rattle.fields.specs.Slices.{part-slice}
+use Rattle.image.proofs.part.Statement.{statement}
+use Rattle.image.proofs.part.Tie as tie
+
+part-span-requires : tie.Need-part-span-requires
+part-span-requires c κs = search needs
+
+sub-result : tie.Need-sub-result
+sub-result c = search needs
+
+part-result-start : tie.Need-part-result-start
+part-result-start c = search needs
+
+part-result-end : tie.Need-part-result-end
+part-result-end c = search needs
+
+returns : tie.Need-returns
+returns c = part-slice _ _ _ (c .before .part-span .ensures .inside .forward) ∙ c .before .part-span .ensures .text
+
+pub part-spec : {M : Type 1} → statement M
+part-spec = tie.close (tie.spec part-span-requires sub-result part-result-start part-result-end returns)

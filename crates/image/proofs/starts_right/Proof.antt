@@ -1,0 +1,46 @@
+-- The four bytes, one after another.
+use Rattle.image.proofs.Readings.{start-short, start-0, start-1, start-2, start-3}
+use borrow.Author.Needs.{needs}
+use Rattle.image.proofs.starts_right.Statement.{statement}
+use Rattle.image.proofs.starts_right.Tie as tie
+
+returns : tie.Need-returns
+returns c = start-short _ (c .if1 .taken)
+
+shared-slice-read-if2 : tie.Need-shared-slice-read-if2
+shared-slice-read-if2 c = search needs
+
+returns-2 : tie.Need-returns-2
+returns-2 c = start-0 _ (c .before .before .if1 .left) (c .if2 .taken)
+
+shared-slice-read-if3 : tie.Need-shared-slice-read-if3
+shared-slice-read-if3 c = search needs
+
+returns-3 : tie.Need-returns-3
+returns-3 c = start-1 _ (c .before .before .before .before .if1 .left) (c .before .before .if2 .left) (c .if3 .taken)
+
+shared-slice-read-if4 : tie.Need-shared-slice-read-if4
+shared-slice-read-if4 c = search needs
+
+returns-4 : tie.Need-returns-4
+returns-4 c = start-2 _ (c .before .before .before .before .before .before .if1 .left) (c .before .before .before .before .if2 .left) (c .before .before .if3 .left) (c .if4 .taken)
+
+shared-slice-read-result : tie.Need-shared-slice-read-result
+shared-slice-read-result c = search needs
+
+returns-5 : tie.Need-returns-5
+returns-5 c = start-3 _ (c .before .before .before .before .before .before .before .if1 .left) (c .before .before .before .before .before .if2 .left) (c .before .before .before .if3 .left) (c .before .if4 .left)
+
+pub starts-right-spec : {M : Type 1} → statement M
+starts-right-spec =
+    tie.close
+    (tie.spec
+    returns
+    shared-slice-read-if2
+    returns-2
+    shared-slice-read-if3
+    returns-3
+    shared-slice-read-if4
+    returns-4
+    shared-slice-read-result
+    returns-5)

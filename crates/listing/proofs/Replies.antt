@@ -1,0 +1,32 @@
+-- A turn of the copy, and the two replies.
+use Prim.Native.Nat.{ℕ, _+_, _≤_, _<_}
+use mathlib.Core.Path.{_≡_, refl, sym, ap, _∙_}
+use mathlib.Core.Bool.{true, false}
+use mathlib.Core.List.{List, _∷_, _++_}
+use native.Mathlib.Omega.{arith}
+use native.Mathlib.Numerals.{add-one}
+use borrow.Author.Tests.{lt-ltb, le-ltb}
+use lib.Dec.{ltb}
+use lib.ListN.{length, take, drop, getD, set}
+use lib.Seq.{take-suc, take-length, drop-cons, append-snoc, set-at, length-take-le}
+use Rattle.listing.specs.Listing.{listedOf, listAfterwards}
+use Rattle.listing.specs.declared.Listed.the-variants.{Done, Full}
+
+module _ (found list : List ℕ) where
+  pub copied-next :
+      (i : ℕ) → i < length found → length found ≤ length list
+      → set (take i found ++ drop i list) i (getD found i 0) ≡ take (i + 1) found ++ drop (i + 1) list
+  copied-next i h k =
+      let j : i < length list = omega arith in
+      rw (drop-cons list i 0 j, set-at (take i found) (getD list i 0) _ (getD found i 0) i (length-take-le i found (omega arith)), add-one i, take-suc found i 0 h)
+      (sym (append-snoc (take i found) (getD found i 0) _))
+
+  pub full-reply : length list < length found → (Full (length found) ≡ listedOf found (length list)) × (list ≡ listAfterwards found list)
+  unfolding listedOf listAfterwards
+  full-reply h = (rw (lt-ltb _ _ h), rw (lt-ltb _ _ h))
+
+  pub done-reply :
+      (i : ℕ) {after : List ℕ} → length found ≤ length list → i ≡ length found → after ≡ take i found ++ drop i list
+      → (Done (length found) ≡ listedOf found (length list)) × (after ≡ listAfterwards found list)
+  unfolding listedOf listAfterwards
+  done-reply i h e g = (rw (le-ltb _ _ h), rw (le-ltb _ _ h) (rw (e, take-length found) at g))

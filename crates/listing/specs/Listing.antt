@@ -1,0 +1,16 @@
+-- How record numbers are reported to a lent list (document 01, "Status table", reasons 9 and 0).
+use Prim.Native.Nat.{ℕ}
+use mathlib.Core.Bool.{cond}
+use mathlib.Core.List.{List, _++_}
+use lib.Dec.{ltb}
+use lib.ListN.{length, drop}
+use Rattle.listing.specs.declared.Listed.{Listed}
+use Rattle.listing.specs.declared.Listed.the-variants.{Done, Full}
+
+-- Whether the list has fewer places than there are records to report. The count is how many there are, also where they do not fit.
+unfoldable pub listedOf : List ℕ → ℕ → Listed
+listedOf found places = cond (ltb places (length found)) (Full (length found)) (Done (length found))
+
+-- The list afterwards: the first count places hold the record numbers, the rest are unchanged; where they do not fit all of it is.
+unfoldable pub listAfterwards : List ℕ → List ℕ → List ℕ
+listAfterwards found list = cond (ltb (length list) (length found)) list (found ++ drop (length found) list)

@@ -1,0 +1,30 @@
+// Record numbers reported to a lent list.
+ghost use mathlib.Core.Path.{_≡_};
+ghost use Prim.Native.Nat.{_≤_};
+ghost use lib.ListN.{length};
+ghost use Rattle.listing.specs.Listing.{listedOf, listAfterwards};
+
+// How many record numbers were written, or how many places are needed.
+pub enum Listed {
+    Done(u32),
+    Full(u32),
+}
+
+// Writes the hits to the first places of the list. Where it has fewer places than there are hits, nothing is written.
+pub fn report(hits: &[u32], list: &mut [u32]) -> Listed
+    requires { ⌜ length (now hits) ≤ 4096 ⌝ }
+    ensures { λ r. ⌜ (r ≡ listedOf (now (hits .entry)) (length (now (list .entry))))
+        × (now (list .exit) ≡ listAfterwards (now (hits .entry)) (now (list .entry))) ⌝ }
+{
+    let need = hits.len();
+    let room = list.len();
+    if room < need {
+        return Listed::Full(need as u32);
+    }
+    let mut i: usize = 0;
+    while i < need {
+        list[i] = hits[i];
+        i += 1;
+    }
+    Listed::Done(need as u32)
+}

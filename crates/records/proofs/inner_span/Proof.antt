@@ -1,0 +1,24 @@
+-- What the reader finds n fields on is turned into its span, by cases as in the definition.
+use mathlib.Core.Path.{_∙_, ap, sym}
+use borrow.Author.Needs.{needs}
+use Rattle.records.specs.Place.{spanFrom}
+use Rattle.records.proofs.inner_span.Statement.{statement}
+use Rattle.records.proofs.inner_span.Tie as tie
+
+field-after-requires : tie.Need-field-after-requires
+field-after-requires c κs = search needs
+
+enum-known-start : tie.Need-enum-known-start
+enum-known-start c = search needs
+
+enum-told : tie.Need-enum-told
+enum-told c = search needs
+
+returns : tie.Need-returns
+returns c = ap spanFrom (sym (c .before .start .given .1) ∙ c .before .before .before .field-after .ensures)
+
+returns-2 : tie.Need-returns-2
+returns-2 c = ap spanFrom (sym (c .enum-told .given .1) ∙ c .before .before .field-after .ensures)
+
+pub inner-span-spec : {M : Type 1} → statement M
+inner-span-spec = tie.close (tie.spec field-after-requires enum-known-start enum-told returns returns-2)
