@@ -31,7 +31,7 @@ abbrev pub afterNext : List Record → Next → (Record → List ℕ → Image) 
 afterNext earlier (refused defect) onward = defective defect (length earlier)
 afterNext earlier (taken r rest) onward = onward r rest
 
--- What is left of the image, of which n records may still come, after the earlier records, the latest first.
+-- What is left of the image, after the earlier records, the latest first; at most n records may still come.
 unfoldable pub imageFrom : ℕ → List Record → List ℕ → Image
 imageFrom zero earlier [] = sound (reverse earlier)
 imageFrom zero earlier (b ∷ bs) = defective 3 (length earlier)

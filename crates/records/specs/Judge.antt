@@ -9,7 +9,8 @@ pub data Judged : Type 0 where
   bad : ℕ → Judged
   good : Record → Judged
 
--- `earlier` is the records before it, the latest first
+-- `earlier` is the records before it, the latest first. Rule 6 looks at its predecessor, rule 7 at all of them.
+
 unfoldable pub inOrder : List Record → Record → Bool
 inOrder [] r = true
 inOrder (p ∷ earlier) r = follows p r
@@ -18,11 +19,12 @@ unfoldable pub crossesAny : List Record → Record → Bool
 crossesAny [] r = false
 crossesAny (e ∷ earlier) r = crossesBlock e r || crossesAny earlier r
 
--- defects 3 to 6
+-- defects 4 to 6, the lowest number first
 abbrev pub judgeParsed : List Record → Parsed → Judged
 judgeParsed earlier malformed = bad 4
 judgeParsed earlier (whole r) = cond (goodContents r) (cond (inOrder earlier r) (good r) (bad 6)) (bad 5)
 
+-- defect 3 comes before them: unknown tag
 unfoldable pub judgeAlone : List Record → ℕ → List ℕ → Judged
 judgeAlone earlier tag contents = cond (isKnown tag) (judgeParsed earlier (recordOf tag contents)) (bad 3)
 

@@ -1,4 +1,4 @@
--- A record and the rules on one record (defects 3 to 7).
+-- A record, and the rules on one record or two (defects 4 to 7 of document 01, "The image").
 use mathlib.Core.Bool.{Bool, not, cond, _&&_, _||_}
 use mathlib.Core.List.{List, [], _∷_}
 use Prim.Native.Nat.{ℕ, _*_}
@@ -60,6 +60,7 @@ abbrev pub ending : List ℕ → Parsed → Parsed
 ending [] p = p
 ending (b ∷ bs) p = malformed
 
+-- Each record is a field whose contents are fields, all present, once each, in the order shown.
 unfoldable pub recordOf : ℕ → List ℕ → Parsed
 recordOf tag contents =
     cond (isBlock tag)
@@ -76,6 +77,7 @@ recordOf tag contents =
 unfoldable pub goodName : ℕ → List ℕ → Bool
 goodName tag name = cond (within 0x13 0x14 tag) (goodHost name) (goodText 0x20 name)
 
+-- 21 is a handle, 22 a name; 23 is 1 or 0, and first is not above last. A record without 20 and 23 has no bytes there, which are 0.
 unfoldable pub goodContents : Record → Bool
 goodContents r =
     goodText 0x21 (r .handle) && goodName (r .tag) (r .name) && (leb (value (r .status)) 1 && wellFormed (rangeOf r))
@@ -90,6 +92,7 @@ keyOf r = cond (eqb (r .tag) 0x15) (r .handle) (r .name)
 unfoldable pub sortedAfter : Record → Record → Bool
 sortedAfter p r = cond (isBlock (r .tag)) (sortsAfter (rangeOf p) (rangeOf r)) (not (atMost (keyOf r) (keyOf p)))
 
+-- Not defect 6: the tag is not lower than its predecessor's, and the same tag is strictly after it in the sorting.
 unfoldable pub follows : Record → Record → Bool
 follows p r = ltb (p .tag) (r .tag) || (eqb (p .tag) (r .tag) && sortedAfter p r)
 

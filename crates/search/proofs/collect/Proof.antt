@@ -71,7 +71,7 @@ loop-again c =
       omega arith,
       e .entry-at .ensures .next,
       rw (w .1, w .2)
-      (one-more (turn .loop .hits) (turn .loop .n) (turn .loop .i) (found-here _ _ _ (e .entry-at .ensures) _ _ _ _ _ _ _ (c .before .picked .ensures) (w .0 .taken)) (omega arith) (turn .loop .inv .4)),
+          (one-more (turn .loop .hits) (turn .loop .n) (turn .loop .i) (found-here _ _ _ (e .entry-at .ensures) _ _ _ _ _ _ _ (c .before .picked .ensures) (w .0 .taken)) (omega arith) (turn .loop .inv .4)),
     ))
     (λ w. (
       rw (w .1) full,
