@@ -1,7 +1,8 @@
 -- Opens the definitions of this crate and of those below it, for theorems that hold by computing: `unfolding computing`.
 use Rattle.records.specs.Computing as Records
 use Rattle.image.specs.Image.{imageFrom, startsRight, imageOf}
+use Rattle.image.specs.Entries.{placeOf, spanOf}
 
 unfoldable pub computing : Unit {0}
-unfolding Records.computing imageFrom startsRight imageOf
+unfolding Records.computing imageFrom startsRight imageOf placeOf spanOf
 computing = tt

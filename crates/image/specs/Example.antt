@@ -5,7 +5,9 @@ use Prim.Native.Nat.{ℕ}
 use lib.ListN.{set, take, drop}
 use Rattle.records.specs.Record.{Record}
 use Rattle.image.specs.Image.{sound, defective, imageOf}
+use Rattle.image.specs.Entries.{spanOf}
 use Rattle.image.specs.Computing.{computing}
+use Rattle.image.specs.declared.Which.the-variants.{Name}
 
 -- one AS block, 12 to 15, handle A, name B, active
 abbrev pub example : List ℕ
@@ -20,6 +22,11 @@ block =
 accepted : imageOf example ≡ sound (block ∷ [])
 unfolding computing
 accepted = refl
+
+-- its name is the byte at 25, and there is no record 1
+spans : (spanOf example 0 Name ≡ record { start = 25; end = 26 }) × (spanOf example 1 Name ≡ record { start = 0; end = 0 })
+unfolding computing
+spans = (refl, refl)
 
 -- a second copy of the record, with another byte at a place
 abbrev twice : ℕ → ℕ → List ℕ

@@ -9,7 +9,7 @@ use borrow.Author.Tests.{lt-ltb, le-ltb}
 use lib.Dec.{ltb}
 use lib.ListN.{length, take, drop, getD, set}
 use lib.Seq.{take-suc, take-length, drop-cons, append-snoc, set-at, length-take-le}
-use Rattle.listing.specs.Listing.{listedOf, listAfterwards}
+use Rattle.listing.specs.Listing.{listedOf, listAfterwards, Reported}
 use Rattle.listing.specs.declared.Listed.the-variants.{Done, Full}
 
 module _ (found list : List ℕ) where
@@ -21,12 +21,12 @@ module _ (found list : List ℕ) where
       rw (drop-cons list i 0 j, set-at (take i found) (getD list i 0) _ (getD found i 0) i (length-take-le i found (omega arith)), add-one i, take-suc found i 0 h)
       (sym (append-snoc (take i found) (getD found i 0) _))
 
-  pub full-reply : length list < length found → (Full (length found) ≡ listedOf found (length list)) × (list ≡ listAfterwards found list)
+  pub full-reply : length list < length found → Reported found list list (Full (length found))
   unfolding listedOf listAfterwards
-  full-reply h = (rw (lt-ltb _ _ h), rw (lt-ltb _ _ h))
+  full-reply h = record { answer = rw (lt-ltb _ _ h); written = rw (lt-ltb _ _ h) }
 
   pub done-reply :
       (i : ℕ) {after : List ℕ} → length found ≤ length list → i ≡ length found → after ≡ take i found ++ drop i list
-      → (Done (length found) ≡ listedOf found (length list)) × (after ≡ listAfterwards found list)
+      → Reported found list after (Done (length found))
   unfolding listedOf listAfterwards
-  done-reply i h e g = (rw (le-ltb _ _ h), rw (le-ltb _ _ h) (rw (e, take-length found) at g))
+  done-reply i h e g = record { answer = rw (le-ltb _ _ h); written = rw (le-ltb _ _ h) (rw (e, take-length found) at g) }

@@ -1,9 +1,10 @@
 -- How record numbers are reported to a lent list (document 01, "Status table", reasons 9 and 0).
-use Prim.Native.Nat.{ℕ}
+use Prim.Native.Nat.{ℕ, _≤_}
 use mathlib.Core.Bool.{cond}
+use mathlib.Core.Path.{_≡_}
 use mathlib.Core.List.{List, _++_}
 use lib.Dec.{ltb}
-use lib.ListN.{length, drop}
+use lib.ListN.{length, take, drop}
 use Rattle.listing.specs.declared.Listed.{Listed}
 use Rattle.listing.specs.declared.Listed.the-variants.{Done, Full}
 
@@ -14,3 +15,14 @@ listedOf found places = cond (ltb places (length found)) (Full (length found)) (
 -- The list afterwards: the first count places hold the record numbers, the rest are unchanged; where they do not fit all of it is.
 unfoldable pub listAfterwards : List ℕ → List ℕ → List ℕ
 listAfterwards found list = cond (ltb (length list) (length found)) list (found ++ drop (length found) list)
+
+-- What a call that reports the record numbers found promises: its answer, and the whole list afterwards.
+pub record Reported (found list after : List ℕ) (r : Listed) : Type 0 where
+  pub answer : r ≡ listedOf found (length list)
+  pub written : after ≡ listAfterwards found list
+
+-- The record numbers found, in the first n places of an array.
+pub record Collected (hits found : List ℕ) (n : ℕ) : Type 0 where
+  pub full : length hits ≡ 4096
+  pub few : n ≤ 4096
+  pub same : take n hits ≡ found

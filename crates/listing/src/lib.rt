@@ -1,8 +1,7 @@
 // Record numbers reported to a lent list.
-ghost use mathlib.Core.Path.{_≡_};
 ghost use Prim.Native.Nat.{_≤_};
 ghost use lib.ListN.{length};
-ghost use Rattle.listing.specs.Listing.{listedOf, listAfterwards};
+ghost use Rattle.listing.specs.Listing.{Reported};
 
 // How many record numbers were written, or how many places are needed.
 pub enum Listed {
@@ -13,8 +12,7 @@ pub enum Listed {
 // Writes the hits to the first places of the list. Where it has fewer places than there are hits, nothing is written.
 pub fn report(hits: &[u32], list: &mut [u32]) -> Listed
     requires { ⌜ length (now hits) ≤ 4096 ⌝ }
-    ensures { λ r. ⌜ (r ≡ listedOf (now (hits .entry)) (length (now (list .entry))))
-        × (now (list .exit) ≡ listAfterwards (now (hits .entry)) (now (list .entry))) ⌝ }
+    ensures { λ r. ⌜ Reported (now (hits .entry)) (now (list .entry)) (now (list .exit)) r ⌝ }
 {
     let need = hits.len();
     let room = list.len();

@@ -13,6 +13,19 @@ and-false true = refl
 and-false false = refl
 
 module _ (e r : Record) where
+  pub crosses-out : isBlock (r .tag) ≡ true → e .tag ≡ r .tag → firstOf e ≤ firstOf r → firstOf r ≤ lastOf r → firstOf r ≤ lastOf e → lastOf e < lastOf r
+      → crossesBlock e r ≡ true
+  unfolding crossesBlock crosses overlaps covers
+  crosses-out b t h g k l =
+      rw (
+        b,
+        eq-eqb (e .tag) (r .tag) t,
+        le-leb (firstOf r) (lastOf e) k,
+        le-leb (firstOf e) (lastOf r) (le-trans h g),
+        le-leb (firstOf e) (firstOf r) h,
+        lt-leb (lastOf r) (lastOf e) l,
+      )
+
   pub crosses-ended : lastOf e < firstOf r → crossesBlock e r ≡ false
   unfolding crossesBlock crosses overlaps
   crosses-ended h =
@@ -31,16 +44,3 @@ module _ (e r : Record) where
   pub crosses-no-block : isBlock (r .tag) ≡ false → crossesBlock e r ≡ false
   unfolding crossesBlock
   crosses-no-block h = rw h
-
-  pub crosses-out : isBlock (r .tag) ≡ true → e .tag ≡ r .tag → firstOf e ≤ firstOf r → firstOf r ≤ lastOf r → firstOf r ≤ lastOf e → lastOf e < lastOf r
-      → crossesBlock e r ≡ true
-  unfolding crossesBlock crosses overlaps covers
-  crosses-out b t h g k l =
-      rw (
-        b,
-        eq-eqb (e .tag) (r .tag) t,
-        le-leb (firstOf r) (lastOf e) k,
-        le-leb (firstOf e) (lastOf r) (le-trans h g),
-        le-leb (firstOf e) (firstOf r) h,
-        lt-leb (lastOf r) (lastOf e) l,
-      )

@@ -1,7 +1,7 @@
 -- A walk over the records: the test of the record at an entry, and what is still to be found.
 use Prim.Native.Nat.{ℕ, _+_, _-_, _≤_, _<_}
 use mathlib.Core.Bool.{Bool, true, false, _&&_}
-use mathlib.Core.Path.{_≡_, refl, sym, ap, _∙_}
+use mathlib.Core.Path.{_≡_, refl, sym, subst, ap, _∙_}
 use mathlib.Core.List.{List, [], _∷_, _++_, append-nil}
 use native.Mathlib.Numerals.{add-one}
 use borrow.Author.Tests.{lt-leb, le-leb}
@@ -17,6 +17,8 @@ use Rattle.fields.specs.Slices.{part-slice}
 use Rattle.records.specs.Place.{bytesOf, Inside}
 use Rattle.records.specs.declared.Span.{Span}
 use Rattle.image.specs.Image.{imageOf}
+use Rattle.listing.specs.Listing.{Reported}
+use Rattle.listing.specs.declared.Listed.{Listed}
 use Rattle.image.specs.Part.{recordsOf}
 use Rattle.image.specs.Entries.{EntryAt}
 use Rattle.image.specs.declared.Entry.{Entry}
@@ -90,3 +92,11 @@ pub all-found :
     (p : Record → Bool) (i : ℕ) (records : List Record) {found whole : List ℕ} → length records ≤ i
     → found ++ numbersFrom p i (drop i records) ≡ whole → found ≡ whole
 all-found p i records {found} h e = rw (drop-of-length-le records h, append-nil found) at e
+
+-- the case is folded or not, as another test says
+pub folded-as :
+    (first last : ℕ) (text : Text) (form : Form) (pattern : List ℕ) (records : List Record) {list after : List ℕ} {r : Listed} {u v : Bool} → u ≡ v
+    → Reported (numbersFrom (picksRecord first last text u form pattern) 0 records) list after r
+    → Reported (numbersFrom (picksRecord first last text v form pattern) 0 records) list after r
+folded-as first last text form pattern records {list} {after} {r} e p =
+    subst (λ (fold : Bool). Reported (numbersFrom (picksRecord first last text fold form pattern) 0 records) list after r) e p

@@ -87,7 +87,11 @@ returns c =
     let start = c .before .before .before .before in
     let few = few-records (now (start .args .image)) (start .args .count) (start .pre .0) in
     let all = counted (imageOf (now (start .args .image))) (start .args .count) (start .pre .0) in
-    (omega arith, all-found _ (c .before .loop .i) (recordsOf (imageOf (now (start .args .image)))) (omega arith) (c .before .loop .inv .4))
+    record {
+      full = c .before .loop .inv .0;
+      few = omega arith;
+      same = all-found _ (c .before .loop .i) (recordsOf (imageOf (now (start .args .image)))) (omega arith) (c .before .loop .inv .4);
+    }
 
 pub collect-spec : {M : Type 1} → statement M
 collect-spec =

@@ -1,0 +1,9 @@
+pub mod Indices
+pub mod Gaps
+pub mod Digits
+pub mod Bounds
+pub mod Hops
+pub mod Tests
+pub mod Gathers
+pub mod Children
+pub mod Picks

@@ -1,0 +1,50 @@
+-- Tests on the blocks where they stand in the image, and a turn of each pass over them.
+use Prim.Native.Nat.{ℕ, _+_, _≤_, _<_}
+use mathlib.Core.Bool.{Bool, true, false}
+use mathlib.Core.Path.{_≡_, sym, subst, _∙_}
+use mathlib.Core.List.{List, [], _∷_}
+use native.Mathlib.Omega.{arith}
+use native.Mathlib.Numerals.{add-one}
+use lib.Dec.{T}
+use lib.ListN.{length, drop, getD, drop-of-length-le}
+use lib.Seq.{drop-cons}
+use Rattle.address.specs.Lists.{any}
+use Rattle.address.specs.Ranges.{Range, strictlyInside}
+use Rattle.records.specs.Record.{widthOf}
+use Rattle.blocks.specs.Blocks.{Block}
+use Rattle.blocks.specs.Relations.{select}
+use Rattle.blocks.proofs.Select.{select-kept, select-dropped}
+use Rattle.scans.specs.Standing.{blocksIn, rangeIn}
+use Rattle.scans.specs.Tests.{Comparable}
+use Rattle.scans.proofs.Accepting.{wide-family}
+use Rattle.bottom.specs.Links.{absent, nth, Gathered}
+
+module _ {s : List ℕ} {family : ℕ} {starts : List ℕ} {n : ℕ} (g : Gathered s family starts n) where
+  pub none-left : (i : ℕ) → n ≤ i → drop i (blocksIn s family) ≡ []
+  none-left i h = let k : length (blocksIn s family) ≤ i = omega (arith, g .counted) in drop-of-length-le (blocksIn s family) k
+
+  module _ (i : ℕ) (h : i < n) where
+    pub one-left : drop i (blocksIn s family) ≡ nth (blocksIn s family) i ∷ drop (i + 1) (blocksIn s family)
+    one-left = rw (add-one i) (drop-cons (blocksIn s family) i absent (omega (arith, g .counted)))
+
+    pub comparable-at : {first last : List ℕ} → length first ≡ widthOf family → length last ≡ widthOf family → Comparable s (getD starts i 0) first last
+    comparable-at e f = record { wide = rw e (wide-family family); same = f ∙ sym e; fits = rw e (g .fits i h) }
+
+    module _ (w : ℕ) (e : w ≡ widthOf family) (q : Range) {v : Bool} (t : v ≡ strictlyInside (rangeIn s (getD starts i 0) w) q) where
+      inside-here : v ≡ strictlyInside (nth (blocksIn s family) i .range) q
+      inside-here = rw (g .ranges i h, ← e) t
+
+      pub any-found : v ≡ true → {R : Bool} → any (λ b. strictlyInside (b .range) q) (drop i (blocksIn s family)) ≡ R → true ≡ R
+      any-found f inv = rw (one-left, sym inside-here ∙ f) at inv
+
+      pub any-next : v ≡ false → {R : Bool} → any (λ b. strictlyInside (b .range) q) (drop i (blocksIn s family)) ≡ R
+          → any (λ b. strictlyInside (b .range) q) (drop (i + 1) (blocksIn s family)) ≡ R
+      any-next f inv = rw (one-left, sym inside-here ∙ f) at inv
+
+    -- a pass that lists the blocks that pass a test
+    module _ (f : Block → Bool) {v : Bool} (t : v ≡ f (nth (blocksIn s family) i)) where
+      pub select-one : v ≡ true → select f (drop i (blocksIn s family)) ≡ nth (blocksIn s family) i .number ∷ select f (drop (i + 1) (blocksIn s family))
+      select-one e = rw one-left (select-kept f (nth (blocksIn s family) i) (drop (i + 1) (blocksIn s family)) (subst T (sym (sym t ∙ e)) tt))
+
+      pub select-none : v ≡ false → select f (drop i (blocksIn s family)) ≡ select f (drop (i + 1) (blocksIn s family))
+      select-none e = rw one-left (select-dropped f (nth (blocksIn s family) i) (drop (i + 1) (blocksIn s family)) (λ k. subst T (sym t ∙ e) k))

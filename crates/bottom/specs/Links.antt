@@ -1,0 +1,56 @@
+-- The blocks of a family by index, in image order: where their ranges stand, and the links by which a walk over a block's own children goes.
+use Prim.Native.Nat.{ℕ, suc, _+_, _*_, _≤_, _<_, max}
+use mathlib.Core.Bool.{Bool, true, false}
+use mathlib.Core.Path.{_≡_}
+use mathlib.Core.List.{List}
+use lib.Dec.{T}
+use lib.ListN.{length, getD}
+use Rattle.address.specs.Number.{value}
+use Rattle.records.specs.Record.{widthOf}
+use Rattle.blocks.specs.Blocks.{Block}
+use Rattle.blocks.specs.Defects.{accepted}
+use Rattle.scans.specs.Standing.{blocksIn, rangeIn}
+
+-- what stands past the end of a list of blocks
+abbrev pub absent : Block
+absent = record { number = 0; range = record { first = 0; last = 0 } }
+
+abbrev pub nth : List Block → ℕ → Block
+nth bs k = getD bs k absent
+
+-- k is the index of the first block after block i that does not lie inside it
+pub record Link (bs : List Block) (i k : ℕ) : Type 0 where
+  pub ahead : i < k
+  pub upto : k ≤ length bs
+  pub inner : (j : ℕ) → i < j → j < k → nth bs j .range .last ≤ nth bs i .range .last
+  pub past : (j : ℕ) → k ≤ j → j < length bs → nth bs i .range .last < nth bs j .range .first
+
+-- the links of the blocks from index i on
+abbrev pub Linked : List Block → List ℕ → ℕ → Type 0
+Linked bs links i = (j : ℕ) → i ≤ j → j < length bs → Link bs j (getD links j 0)
+
+-- the n blocks of a family of a sound image, and where their ranges start
+pub record Gathered (s : List ℕ) (family : ℕ) (starts : List ℕ) (n : ℕ) : Type 0 where
+  pub nested : T (accepted (blocksIn s family))
+  pub counted : length (blocksIn s family) ≡ n
+  pub few : n ≤ 4096
+  pub ranges : (k : ℕ) → k < n → nth (blocksIn s family) k .range ≡ rangeIn s (getD starts k 0) (widthOf family)
+  pub fits : (k : ℕ) → k < n → getD starts k 0 + 2 * widthOf family ≤ length s
+
+-- and their record numbers
+abbrev pub Numbered : List ℕ → ℕ → List ℕ → ℕ → Type 0
+Numbered s family numbers n = (k : ℕ) → k < n → nth (blocksIn s family) k .number ≡ getD numbers k 0
+
+-- the first address that no child seen so far holds, where the last child seen, if any, ends at kept
+abbrev pub freeFrom : ℕ → Bool → ℕ → ℕ
+freeFrom low true kept = max low (suc kept)
+freeFrom low false kept = low
+
+-- what the test of block i against first to last asks
+pub record Testable (s : List ℕ) (family : ℕ) (starts links : List ℕ) (n i : ℕ) (first last : List ℕ) : Type 0 where
+  pub gathered : Gathered s family starts n
+  pub linked : Linked (blocksIn s family) links 0
+  pub known : i < n
+  pub first-wide : length first ≡ widthOf family
+  pub last-wide : length last ≡ widthOf family
+  pub proper : value first ≤ value last

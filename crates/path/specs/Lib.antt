@@ -1,0 +1,3 @@
+pub mod Path
+pub mod Places
+pub mod Computing

@@ -1,0 +1,38 @@
+-- The tests of the passes.
+use Prim.Native.Nat.{ℕ, suc, _+_, _*_, _≤_}
+use mathlib.Core.Bool.{Bool, true, false, cond, _&&_}
+use mathlib.Core.Path.{_≡_}
+use mathlib.Core.List.{List}
+use lib.Dec.{eqb, leb}
+use lib.ListN.{length}
+use Rattle.blocks.specs.Blocks.{Block}
+use Rattle.blocks.specs.Relations.{lookup, up}
+use Rattle.address.specs.Ranges.{Range, covers, strictlyCovers, strictlyInside}
+
+-- the width of an address or number: 4 or 16 bytes
+abbrev pub Wide : ℕ → Type 0
+Wide width = (4 ≤ width) × ((width ≡ 4 → ⊥) → width ≡ 16)
+
+-- first and last of one width, and a range of it at a position
+pub record Comparable (s : List ℕ) (at : ℕ) (first last : List ℕ) : Type 0 where
+  pub wide : Wide (length first)
+  pub same : length last ≡ length first
+  pub fits : at + 2 * length first ≤ length s
+
+-- covers, or strictly
+abbrev pub surroundsBy : Bool → Range → Range → Bool
+surroundsBy true r q = strictlyCovers r q
+surroundsBy false r q = covers r q
+
+-- the address after the last of n blocks kept; 0 where none was kept
+abbrev pub freeAfter : ℕ → ℕ → ℕ
+freeAfter n last = cond (eqb n 0) 0 (suc last)
+
+-- the test of down: strictly inside q, and not before the address that is free
+abbrev pub keepsFrom : ℕ → Range → Range → Bool
+keepsFrom free r q = strictlyInside r q && leb free (r .first)
+
+-- lookup, or up
+abbrev pub lastAround : Bool → List Block → Range → List ℕ
+lastAround true bs q = up bs q
+lastAround false bs q = lookup bs q
