@@ -1,0 +1,12 @@
+-- The numbers that are written are the reply's, whatever records it reports.
+use Prim.Native.Nat.{ℕ}
+use mathlib.Core.Path.{_≡_, ap}
+use mathlib.Core.List.{List, []}
+use Rattle.rdap.specs.declared.answers.Answer.{Answer}
+use Rattle.rdap.specs.Calls.{Reply}
+use Rattle.rdap.specs.Answered.{replyOf, Answered}
+use Rattle.rdap_c.specs.Numbers.{numbersOf}
+
+pub written : {reply : Reply} {a : Answer} {before after : List ℕ} → Answered reply a before after → numbersOf (replyOf a []) ≡ numbersOf reply
+unfolding numbersOf replyOf
+written {reply} h = ap numbersOf (h .numbers)

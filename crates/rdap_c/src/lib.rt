@@ -1,0 +1,113 @@
+// The library for C: each function writes its numbers to an array that the caller lends. include/rdap.h declares them.
+ghost use mathlib.Core.Path.{_≡_};
+ghost use mathlib.Core.List.{[]};
+ghost use lib.ListN.{length};
+ghost use Rattle.image.specs.Entries.{spanOf};
+ghost use Rattle.rdap.specs.Calls.{answerOf, relationOf, listAfter};
+ghost use Rattle.rdap.specs.Answered.{replyOf};
+ghost use Rattle.rdap_c.specs.Numbers.{numbersOf, partNumbers};
+use image::Which;
+use query::Relation;
+use rdap::Answer;
+
+// The numbers of an answer.
+fn numbers(a: Answer) -> [u32; 7]
+    ensures { λ r. ⌜ r ≡ numbersOf (replyOf a []) ⌝ }
+{
+    let k = a.kind;
+    let kind = rdap::kind_number(k);
+    let relation = rdap::relation_number(k);
+    let status = a.status;
+    let reason = a.reason;
+    let count = a.count;
+    let defect = a.defect;
+    let place = a.place;
+    [status, reason, kind, relation, count, defect, place]
+}
+
+// Offset and length of the handle or the name of a record in the image.
+fn part_numbers(image: &[u8], record_number: u32, which: Which) -> [u32; 2]
+    ensures { λ r. ⌜ r ≡ partNumbers (spanOf (now (image .entry)) record_number which) ⌝ }
+{
+    let span = image::part_span(image, record_number, which);
+    let start = span.start;
+    let end = span.end;
+    let length = end - start;
+    [start as u32, length as u32]
+}
+
+// Answers a path from an image. Record numbers go to the first places of the list.
+#[no_mangle]
+pub extern "C" fn rdap_answer(path: &[u8], image: &[u8], list: &mut [u32], reply: &mut [u32; 7])
+    ensures { λ _. ⌜ now (reply .exit) ≡ numbersOf (answerOf (now (path .entry)) (now (image .entry)) (length (now (list .entry)))) ⌝ }
+    ensures { λ _. ⌜ now (list .exit) ≡ listAfter (answerOf (now (path .entry)) (now (image .entry)) (length (now (list .entry)))) (now (list .entry)) ⌝ }
+{
+    let a = rdap::answer(path, image, list);
+    *reply = numbers(a);
+}
+
+// Asks up of a record number.
+#[no_mangle]
+pub extern "C" fn rdap_up(image: &[u8], record_number: u32, list: &mut [u32], reply: &mut [u32; 7])
+    ensures { λ _. ⌜ now (reply .exit) ≡ numbersOf (relationOf (now (image .entry)) record_number Relation.Up (length (now (list .entry)))) ⌝ }
+    ensures { λ _. ⌜ now (list .exit) ≡ listAfter (relationOf (now (image .entry)) record_number Relation.Up (length (now (list .entry)))) (now (list .entry)) ⌝ }
+{
+    let a = rdap::relation(image, record_number, Relation::Up, list);
+    *reply = numbers(a);
+}
+
+// Asks down of a record number.
+#[no_mangle]
+pub extern "C" fn rdap_down(
+    image: &[u8],
+    record_number: u32,
+    list: &mut [u32],
+    reply: &mut [u32; 7],
+)
+    ensures { λ _. ⌜ now (reply .exit) ≡ numbersOf (relationOf (now (image .entry)) record_number Relation.Down (length (now (list .entry)))) ⌝ }
+    ensures { λ _. ⌜ now (list .exit) ≡ listAfter (relationOf (now (image .entry)) record_number Relation.Down (length (now (list .entry)))) (now (list .entry)) ⌝ }
+{
+    let a = rdap::relation(image, record_number, Relation::Down, list);
+    *reply = numbers(a);
+}
+
+// Asks top of a record number.
+#[no_mangle]
+pub extern "C" fn rdap_top(image: &[u8], record_number: u32, list: &mut [u32], reply: &mut [u32; 7])
+    ensures { λ _. ⌜ now (reply .exit) ≡ numbersOf (relationOf (now (image .entry)) record_number Relation.Top (length (now (list .entry)))) ⌝ }
+    ensures { λ _. ⌜ now (list .exit) ≡ listAfter (relationOf (now (image .entry)) record_number Relation.Top (length (now (list .entry)))) (now (list .entry)) ⌝ }
+{
+    let a = rdap::relation(image, record_number, Relation::Top, list);
+    *reply = numbers(a);
+}
+
+// Asks bottom of a record number.
+#[no_mangle]
+pub extern "C" fn rdap_bottom(
+    image: &[u8],
+    record_number: u32,
+    list: &mut [u32],
+    reply: &mut [u32; 7],
+)
+    ensures { λ _. ⌜ now (reply .exit) ≡ numbersOf (relationOf (now (image .entry)) record_number Relation.Bottom (length (now (list .entry)))) ⌝ }
+    ensures { λ _. ⌜ now (list .exit) ≡ listAfter (relationOf (now (image .entry)) record_number Relation.Bottom (length (now (list .entry)))) (now (list .entry)) ⌝ }
+{
+    let a = rdap::relation(image, record_number, Relation::Bottom, list);
+    *reply = numbers(a);
+}
+
+// The handle of a record, as offset and length in the image; 0 and 0 if the image is defective or there is no such record.
+#[no_mangle]
+pub extern "C" fn rdap_handle(image: &[u8], record_number: u32, part: &mut [u32; 2])
+    ensures { λ _. ⌜ now (part .exit) ≡ partNumbers (spanOf (now (image .entry)) record_number Which.Handle) ⌝ }
+{
+    *part = part_numbers(image, record_number, Which::Handle);
+}
+
+// The name of a record, as offset and length in the image; 0 and 0 if the image is defective or there is no such record.
+#[no_mangle]
+pub extern "C" fn rdap_name(image: &[u8], record_number: u32, part: &mut [u32; 2])
+    ensures { λ _. ⌜ now (part .exit) ≡ partNumbers (spanOf (now (image .entry)) record_number Which.Name) ⌝ }
+{
+    *part = part_numbers(image, record_number, Which::Name);
+}

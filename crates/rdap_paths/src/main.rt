@@ -1,0 +1,282 @@
+// Answers each line of a file of paths from a registry image.
+//
+// rdap_paths PATHS IMAGE
+//
+// For each path one line: status, reason, kind, count and the record numbers, as `200 0 2 1 0`.
+// PATHS is read in a stream and may be of any length. IMAGE has at most 65,536 bytes.
+use libc::STDERR_FILENO;
+use libc::STDOUT_FILENO;
+
+// The output: bytes at the start of a buffer, and how many. A line has at most some 20,500 bytes.
+
+fn put(out: &mut [u8; 65536], at: usize, b: u8) -> usize {
+    if at < 65536 {
+        out[at] = b;
+        return at + 1;
+    }
+    at
+}
+
+fn put_bytes(out: &mut [u8; 65536], from: usize, s: &[u8]) -> usize {
+    let mut at = from;
+    for i in 0..s.len() {
+        at = put(out, at, s[i]);
+    }
+    at
+}
+
+fn put_number(out: &mut [u8; 65536], at: usize, n: u32) -> usize {
+    let mut text = [0u8; 20];
+    let k = io::decimal(n as u64, &mut text);
+    put_bytes(out, at, &text[..k])
+}
+
+// A space and a number.
+fn put_next(out: &mut [u8; 65536], at: usize, n: u32) -> usize {
+    let at = put(out, at, b' ');
+    put_number(out, at, n)
+}
+
+// The first record numbers of the list, so many.
+fn put_records(out: &mut [u8; 65536], from: usize, list: &[u32], count: usize) -> usize {
+    let mut at = from;
+    for i in 0..list.len() {
+        if count <= i {
+            return at;
+        }
+        at = put_next(out, at, list[i]);
+    }
+    at
+}
+
+fn write_out(bytes: &[u8]) {
+    if !io::write_all(STDOUT_FILENO, bytes) {
+        os::fail(b"standard output");
+    }
+}
+
+// Writes out what was put.
+fn flush(out: &[u8], at: usize) {
+    if at <= out.len() {
+        write_out(&out[..at]);
+    }
+}
+
+// Writes out what was put, unless another line surely fits behind it.
+fn make_room(out: &[u8; 65536], at: usize) -> usize {
+    if at < 32768 {
+        return at;
+    }
+    flush(out, at);
+    0
+}
+
+// Answers a path.
+fn put_answer(
+    path: &[u8],
+    image: &[u8],
+    list: &mut [u32; 4096],
+    out: &mut [u8; 65536],
+    at: usize,
+) -> usize {
+    let a = rdap::answer(path, image, list);
+    let kind = a.kind;
+    let reason = a.reason;
+    let count = a.count;
+    let at = put_number(out, at, a.status);
+    let at = put_next(out, at, reason);
+    let at = put_next(out, at, rdap::kind_number(kind));
+    let at = put_next(out, at, count);
+    let found = if reason == 0 { count } else { 0 };
+    let at = put_records(out, at, list, found as usize);
+    let at = put(out, at, b'\n');
+    make_room(out, at)
+}
+
+// How many bytes of a line are kept, and how many of the output are put.
+struct Kept {
+    line: usize,
+    out: usize,
+}
+
+// Keeps a byte of a line. More than 1,025 are too long in the same way.
+fn keep(line: &mut [u8; 1025], len: usize, b: u8) -> usize {
+    if len < 1025 {
+        line[len] = b;
+        return len + 1;
+    }
+    len
+}
+
+// Answers the line that is kept.
+fn end_line(
+    line: &[u8],
+    kept: Kept,
+    image: &[u8],
+    list: &mut [u32; 4096],
+    out: &mut [u8; 65536],
+) -> Kept {
+    let len = kept.line;
+    let mut at = kept.out;
+    if len <= line.len() {
+        at = put_answer(&line[..len], image, list, out, at);
+    }
+    Kept { line: 0, out: at }
+}
+
+fn take_byte(
+    b: u8,
+    line: &mut [u8; 1025],
+    kept: Kept,
+    image: &[u8],
+    list: &mut [u32; 4096],
+    out: &mut [u8; 65536],
+) -> Kept {
+    if b == b'\n' {
+        return end_line(line, kept, image, list, out);
+    }
+    Kept {
+        line: keep(line, kept.line, b),
+        out: kept.out,
+    }
+}
+
+fn take_bytes(
+    bytes: &[u8],
+    line: &mut [u8; 1025],
+    before: Kept,
+    image: &[u8],
+    list: &mut [u32; 4096],
+    out: &mut [u8; 65536],
+) -> Kept {
+    let mut kept = before;
+    for i in 0..bytes.len() {
+        kept = take_byte(bytes[i], line, kept, image, list, out);
+    }
+    kept
+}
+
+// Takes the bytes that a read put into the chunk.
+fn take_read(
+    chunk: &[u8],
+    got: isize,
+    line: &mut [u8; 1025],
+    kept: Kept,
+    image: &[u8],
+    list: &mut [u32; 4096],
+    out: &mut [u8; 65536],
+) -> Kept {
+    let n = io::count(got, chunk);
+    take_bytes(&chunk[..n], line, kept, image, list, out)
+}
+
+// Answers a last line that has no line feed, and writes out what is left.
+fn finish(
+    line: &mut [u8; 1025],
+    kept: Kept,
+    image: &[u8],
+    list: &mut [u32; 4096],
+    out: &mut [u8; 65536],
+) {
+    let len = kept.line;
+    let mut at = kept.out;
+    if 0 < len {
+        let ended = end_line(line, kept, image, list, out);
+        at = ended.out;
+    }
+    flush(out, at);
+}
+
+// Answers the paths of a file whose first bytes are read. The turns are counted down from a number that no run uses up.
+fn answer_lines(fd: i32, name: &[u8], chunk: &mut [u8], first: isize, image: &[u8]) {
+    let mut line = [0u8; 1025];
+    let mut list = [0u32; 4096];
+    let mut out = [0u8; 65536];
+    let mut kept = Kept { line: 0, out: 0 };
+    let mut got = first;
+    let mut turns = u64::MAX;
+    while turns > 0 && got > 0 {
+        kept = take_read(chunk, got, &mut line, kept, image, &mut list, &mut out);
+        got = libc::read(fd, chunk);
+        turns -= 1;
+    }
+    finish(&mut line, kept, image, &mut list, &mut out);
+    if got < 0 {
+        os::fail(name);
+    }
+}
+
+// Reads the start of the paths, so that a file that can't be read is answered nothing.
+fn answer_paths(name: &[u8], image: &[u8]) {
+    let fd = os::open_read(name);
+    if fd < 0 {
+        os::fail(name);
+        return;
+    }
+    let mut chunk = io::buffer();
+    let got = libc::read(fd, &mut chunk);
+    if got < 0 {
+        os::fail(name);
+    } else {
+        answer_lines(fd, name, &mut chunk, got, image);
+    }
+    libc::close(fd);
+}
+
+// Reads the image whole into a room with one byte more than it may have. Where that fails, says so and gives a length that no image has.
+fn read_image(name: &[u8], image: &mut [u8; 65537]) -> usize {
+    let fd = os::open_read(name);
+    if fd < 0 {
+        os::fail(name);
+        return 65537;
+    }
+    let n = io::read_full(fd, image);
+    if n == 65537 {
+        io::write_all(STDERR_FILENO, name);
+        io::write_all(STDERR_FILENO, b": longer than 65536 bytes\n");
+        libc::close(fd);
+        return n;
+    }
+    let mut more = [0u8; 1];
+    let left = libc::read(fd, &mut more);
+    if left != 0 {
+        os::fail(name);
+        libc::close(fd);
+        return 65537;
+    }
+    libc::close(fd);
+    n
+}
+
+// Answers the paths from an image of n bytes, which are at the start of the room.
+fn answer_from(paths_name: &[u8], room: &[u8], n: usize) {
+    if n < room.len() {
+        answer_paths(paths_name, &room[..n]);
+    }
+}
+
+fn run(paths_name: &[u8], image_name: &[u8], room: &mut [u8; 65537]) {
+    let n = read_image(image_name, room);
+    answer_from(paths_name, room, n);
+}
+
+fn main() {
+    if os::arg_count() != 3 {
+        io::write_all(STDERR_FILENO, b"usage: rdap_paths PATHS IMAGE\n");
+        return;
+    }
+    let mut paths = io::buffer();
+    let p = os::arg(1, &mut paths);
+    if os::errno() != 0 {
+        os::fail(b"PATHS");
+        return;
+    }
+    let mut image = io::buffer();
+    let i = os::arg(2, &mut image);
+    if os::errno() != 0 {
+        os::fail(b"IMAGE");
+        return;
+    }
+    let mut room = [0u8; 65537];
+    run(&paths[..p], &image[..i], &mut room);
+}

@@ -1,0 +1,82 @@
+/* Answers RDAP requests from a registry image. Every function is proved to write what its definition says, for any input.
+ *
+ * Link with the archive that `rt staticlib rdap_c` writes to target/staticlib/librdap_c.a (x86-64, System V calls).
+ * It needs memcpy and memset and nothing else.
+ *
+ * Memory. The caller owns every buffer, before, during and after a call. Nothing is allocated and no pointer is kept.
+ * path and image are read only. A call writes to list, reply and part and to nothing else.
+ * - path, image and list may be NULL if their length is 0, and only then; nothing is read or written through them then.
+ * - reply has 7 places and part has 2; neither may be NULL.
+ * - list and reply are aligned as uint32_t is. list, reply and part may not overlap each other, path or image;
+ *   path and image may overlap.
+ * - Buffers have the lengths that are named, and no other thread writes to them during the call.
+ *
+ * Calls are pure: there is no state, the result depends on the arguments alone, and no call fails, waits or sets errno.
+ * Calls may run in parallel, on the same image too, if each has its own list and reply or part.
+ * A call needs some 100 kB of stack (bottom; the others less).
+ */
+#ifndef RDAP_H
+#define RDAP_H
+
+#include <stddef.h>
+#include <stdint.h>
+
+#ifdef __cplusplus
+extern "C" {
+#endif
+
+/* The places of a reply */
+enum {
+    RDAP_STATUS,   /* the HTTP status, see the table below */
+    RDAP_REASON,   /* 0 answered, else why not */
+    RDAP_KIND,     /* 1 ip, 2 autnum, 3 domain, 4 nameserver, 5 entity, 6 help, 7 pattern search, 8 relation; 0 under reasons 1 to 7 */
+    RDAP_RELATION, /* 1 up, 2 down, 3 top, 4 bottom; 0 where the kind is not 8 */
+    RDAP_COUNT,    /* under reason 0 the record numbers in the list, under 9 the places that are needed, else 0 */
+    RDAP_DEFECT,   /* under reason 2 what is wrong with the image, 1 to 7, else 0 */
+    RDAP_PLACE,    /* under reason 2 the number of the record that has the defect, else 0 */
+    RDAP_REPLY_PLACES
+};
+
+/* Reasons; the first that applies is given.
+ *
+ *   1  414  path longer than 1,024 bytes
+ *   2  500  image defective; defect and place say how
+ *   3  400  no leading '/', a byte that RFC 3986 does not allow, or '%' without two hex digits
+ *   4  501  query type, relation or parameter known to be unsupported
+ *   5  501  an escape from %80 to %FF
+ *   6  400  wrong number of segments, or a malformed part
+ *   7  422  asterisk used in a way not supported
+ *   8  404  lookup, up or top with no answer; the record number names no block
+ *   9  507  the list has fewer places than there are records to report
+ *   0  200  answered; the first count places of the list hold the record numbers, ascending, the rest are unchanged
+ *
+ * On every refusal the whole list is unchanged. A list of 4,096 places is never too short.
+ *
+ * Defects: 1 image too long (above 262,144 bytes); 2 wrong start; 3 record cut short, unknown tag, or more than 4,096
+ * records; 4 inner fields; 5 contents; 6 order; 7 overlap.
+ */
+
+/* Answers a path with its query, as "/ip/192.0.2.0", from an image. */
+void rdap_answer(const uint8_t *path, size_t path_len, const uint8_t *image, size_t image_len,
+                 uint32_t *list, size_t list_len, uint32_t reply[7]);
+
+/* Ask a relation of a record number, as a relation path would for that block's range; reasons 2, 8, 9 and 0 occur. */
+void rdap_up(const uint8_t *image, size_t image_len, uint32_t record,
+             uint32_t *list, size_t list_len, uint32_t reply[7]);
+void rdap_down(const uint8_t *image, size_t image_len, uint32_t record,
+               uint32_t *list, size_t list_len, uint32_t reply[7]);
+void rdap_top(const uint8_t *image, size_t image_len, uint32_t record,
+              uint32_t *list, size_t list_len, uint32_t reply[7]);
+void rdap_bottom(const uint8_t *image, size_t image_len, uint32_t record,
+                 uint32_t *list, size_t list_len, uint32_t reply[7]);
+
+/* The handle or the name of a record, as a part of the image: part[0] is its offset, part[1] its length.
+ * Both are 0 if the image is defective or there is no such record. */
+void rdap_handle(const uint8_t *image, size_t image_len, uint32_t record, uint32_t part[2]);
+void rdap_name(const uint8_t *image, size_t image_len, uint32_t record, uint32_t part[2]);
+
+#ifdef __cplusplus
+}
+#endif
+
+#endif

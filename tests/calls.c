@@ -1,0 +1,55 @@
+/* Every function on the image of one AS block (12 to 15, handle A, name B), with and without room, and with NULL for what is empty.
+ * Writes a line for each call. */
+#include <inttypes.h>
+#include <stdio.h>
+#include <string.h>
+
+#include "rdap.h"
+
+static const uint8_t image[30] = {1, 0, 1, 1, 0x12, 0, 0x17, 0x20, 0, 8, 0, 0, 0, 12, 0, 0, 0, 15,
+                                  0x21, 0, 1, 'A', 0x22, 0, 1, 'B', 0x23, 0, 1, 1};
+
+static void line(const char *name, const uint32_t *numbers, int n)
+{
+    printf("%s", name);
+    for (int i = 0; i < n; i++)
+        printf(" %" PRIu32, numbers[i]);
+    putchar('\n');
+}
+
+int main(void)
+{
+    const uint8_t *path = (const uint8_t *)"/autnum/12";
+    uint32_t list[2] = {7, 7};
+    uint32_t reply[7];
+    uint32_t part[2];
+
+    rdap_answer(path, 10, image, 30, list, 2, reply);
+    line("answer", reply, 7);
+    line("list", list, 2);
+    rdap_answer(path, 10, image, 30, NULL, 0, reply);
+    line("no room", reply, 7);
+    rdap_answer(NULL, 0, image, 30, NULL, 0, reply);
+    line("no path", reply, 7);
+    rdap_answer(path, 10, NULL, 0, NULL, 0, reply);
+    line("no image", reply, 7);
+    rdap_up(image, 30, 0, list, 2, reply);
+    line("up", reply, 7);
+    rdap_down(image, 30, 0, list, 2, reply);
+    line("down", reply, 7);
+    rdap_top(image, 30, 1, list, 2, reply);
+    line("top", reply, 7);
+    rdap_bottom(image, 30, 0, NULL, 0, reply);
+    line("bottom", reply, 7);
+    rdap_bottom(NULL, 0, 0, NULL, 0, reply);
+    line("bottom, no image", reply, 7);
+    rdap_handle(image, 30, 0, part);
+    line("handle", part, 2);
+    rdap_name(image, 30, 0, part);
+    line("name", part, 2);
+    rdap_name(image, 30, 1, part);
+    line("no record", part, 2);
+    rdap_handle(NULL, 0, 0, part);
+    line("no image", part, 2);
+    return 0;
+}

@@ -1,0 +1,389 @@
+//! Nanoseconds a call, for src/fast.rs and (with the feature `ffi`) for the
+//! library beside it, in the same run and by turns; each figure is the least of
+//! many repetitions.
+//!
+//!     bench [--shape NAME] [--kind TEXT] [--repetitions N] [--seconds T]
+//!
+//! N repetitions (40) of every row, fewer if T seconds (100) are over before.
+//! Every call checks the image. The row `check` is the path `/help`, which does
+//! nothing else. Growth is the time for 4,096 records over that for 2,048.
+
+use model::generate::Draft;
+use model::{fast, generate, subject, Range, Relation, AS, DOMAIN, ENTITY, IPV4, IPV6, NAMESERVER};
+use std::hint::black_box;
+use std::time::Instant;
+
+const SIZES: [usize; 5] = [256, 512, 1024, 2048, 4096];
+const SHAPES: [&str; 4] = ["mixed", "flat", "chain", "long"];
+
+/// A batch takes about so many nanoseconds.
+const BATCH: f64 = 150_000.0;
+
+// Images
+
+fn handle(start: &str, number: usize) -> Vec<u8> {
+    format!("{start}-{number:04}").into_bytes()
+}
+
+fn name(number: usize) -> Vec<u8> {
+    format!("Example Net {number:04}").into_bytes()
+}
+
+fn block(tag: u8, start: &str, number: usize, range: Range) -> Draft {
+    Draft::block(tag, range, &handle(start, number), &name(number), true)
+}
+
+/// The first `count` blocks of a tree whose nodes have up to four children;
+/// `bits` are those of an address.
+fn tree(count: usize, bits: u32) -> Vec<Range> {
+    let mut ranges = Vec::new();
+    let mut level = vec![(0u128, bits)];
+    while ranges.len() < count {
+        let mut next = Vec::new();
+        for (first, after) in level {
+            if ranges.len() == count {
+                break;
+            }
+            let size = 1u128.checked_shl(after).unwrap_or(0).wrapping_sub(1);
+            ranges.push(Range {
+                first,
+                last: first | size,
+            });
+            let after = after.saturating_sub(3);
+            next.extend((0..4).map(|child: u128| (first + (child << after), after)));
+        }
+        level = next;
+    }
+    ranges.sort_by_key(|range| (range.first, !range.last));
+    ranges
+}
+
+fn image(shape: &str, count: usize) -> Vec<u8> {
+    let mut drafts = Vec::new();
+    match shape {
+        // a sixth of each tag, blocks in trees
+        "mixed" => {
+            for tag in IPV4..=ENTITY {
+                let count = count / 6 + usize::from(usize::from(tag - IPV4) < count % 6);
+                let blocks = |bits, start: &str| {
+                    tree(count, bits)
+                        .into_iter()
+                        .enumerate()
+                        .map(|(number, range)| block(tag, start, number, range))
+                        .collect::<Vec<_>>()
+                };
+                match tag {
+                    IPV4 => drafts.extend(blocks(32, "NET")),
+                    IPV6 => drafts.extend(blocks(128, "NET6")),
+                    AS => drafts.extend(blocks(32, "AS")),
+                    _ => drafts.extend((0..count).map(|number| {
+                        let handle = handle("OBJ", number);
+                        match tag {
+                            DOMAIN => {
+                                let name = format!("d{number:04}.example.com");
+                                Draft::other(tag, &handle, name.as_bytes())
+                            }
+                            NAMESERVER => {
+                                let name = format!("d{number:04}.ns.example.com");
+                                Draft::other(tag, &handle, name.as_bytes())
+                            }
+                            _ => Draft::other(tag, &handle, &name(number)),
+                        }
+                    })),
+                }
+            }
+        }
+        // IPv4 blocks side by side
+        "flat" => drafts.extend((0..count).map(|number| {
+            let first = (number as u128) << 8;
+            let last = first + 255;
+            block(IPV4, "NET", number, Range { first, last })
+        })),
+        // IPv4 blocks, each in the one before
+        "chain" => drafts.extend((0..count).map(|number| {
+            let first = number as u128;
+            let last = u128::from(u32::MAX) - number as u128;
+            block(IPV4, "NET", number, Range { first, last })
+        })),
+        // domains and entities with names of 46 bytes
+        "long" => {
+            let half = count / 2;
+            drafts.extend((0..half).map(|number| {
+                let name = format!("a-rather-long-label-{number:04}.in.a.zone.example.com");
+                Draft::other(DOMAIN, &handle("DOM", number), name.as_bytes())
+            }));
+            drafts.extend((half..count).map(|number| {
+                let name = format!("Department of Records and Registries, No. {number:04}");
+                Draft::other(ENTITY, &handle("ENT", number), name.as_bytes())
+            }));
+        }
+        _ => unreachable!(),
+    }
+    assert_eq!(drafts.len(), count);
+    generate::encode(&drafts)
+}
+
+// Calls
+
+/// One of the public functions with its input.
+enum Call {
+    Answer(Vec<u8>),
+    Related(Relation, u32),
+    Handle(u32),
+    Name(u32),
+}
+
+impl Call {
+    fn fast(&self, image: &[u8], list: &mut [u32]) -> u32 {
+        match self {
+            Call::Answer(path) => fast::answer(path, image, list).count,
+            Call::Related(relation, record) => {
+                fast::relation(image, *record, *relation, list).count
+            }
+            Call::Handle(record) => fast::handle_part(image, *record).1,
+            Call::Name(record) => fast::name_part(image, *record).1,
+        }
+    }
+
+    fn subject(&self, image: &[u8], list: &mut [u32]) -> u32 {
+        let mut reply = [0; 7];
+        let mut part = [0; 2];
+        match self {
+            Call::Answer(path) => {
+                subject::answer(path, image, list, &mut reply);
+                reply[4]
+            }
+            Call::Related(relation, record) => {
+                subject::relation(*relation, image, *record, list, &mut reply);
+                reply[4]
+            }
+            Call::Handle(record) => {
+                subject::handle(image, *record, &mut part);
+                part[1]
+            }
+            Call::Name(record) => {
+                subject::name(image, *record, &mut part);
+                part[1]
+            }
+        }
+    }
+}
+
+/// The calls measured on an image. Where the image has such records, lookups
+/// and searches find something, and what they find lies at the end.
+fn calls(image: &[u8]) -> Vec<(String, Call)> {
+    let records = model::check(image).expect("a sound image");
+    let last_of = |tag: u8| records.iter().rposition(|record| record.tag == tag);
+    let text = |part: model::Part| {
+        String::from_utf8_lossy(&image[part.offset..][..part.length]).replace(' ', "%20")
+    };
+    let handle_of = |tag| last_of(tag).map_or("none".into(), |at| text(records[at].handle));
+    let name_of = |tag| last_of(tag).map_or("none".into(), |at| text(records[at].name));
+    let range_of = |tag| {
+        let none = Range { first: 0, last: 0 };
+        last_of(tag).map_or(none, |at| records[at].range.unwrap_or(none))
+    };
+    // A pattern that matches the last sixteen or so.
+    let most = |text: String| format!("{}*", &text[..text.len() - 2]);
+    let v4 = std::net::Ipv4Addr::from(range_of(IPV4).first as u32);
+    let v6 = std::net::Ipv6Addr::from(range_of(IPV6).first);
+    let autnum = range_of(AS).first;
+    let last_block = records
+        .iter()
+        .rposition(|record| record.tag == IPV4)
+        .unwrap_or(0) as u32;
+    let last = records.len() as u32 - 1;
+
+    let mut calls: Vec<(String, Call)> = Vec::new();
+    let mut path = |kind: &str, path: String| {
+        calls.push((kind.into(), Call::Answer(path.into_bytes())));
+    };
+    path("check", "/help".into());
+    path("ip v4", format!("/ip/{v4}"));
+    path("ip v6", format!("/ip/{v6}"));
+    path("autnum", format!("/autnum/{autnum}"));
+    path("domain", format!("/domain/{}", name_of(DOMAIN)));
+    path("nameserver", format!("/nameserver/{}", name_of(NAMESERVER)));
+    path("entity", format!("/entity/{}", handle_of(ENTITY)));
+    let pattern = most(name_of(DOMAIN));
+    path("domains name", format!("/domains?name={pattern}"));
+    path("domains suffix", "/domains?name=*.example.com".into());
+    let pattern = most(name_of(NAMESERVER));
+    path("nameservers name", format!("/nameservers?name={pattern}"));
+    let pattern = most(name_of(ENTITY));
+    path("entities fn", format!("/entities?fn={pattern}"));
+    let pattern = most(handle_of(ENTITY));
+    path("entities handle", format!("/entities?handle={pattern}"));
+    let pattern = most(handle_of(IPV4));
+    path("ips handle", format!("/ips?handle={pattern}"));
+    let pattern = most(name_of(IPV4));
+    path("ips name", format!("/ips?name={pattern}"));
+    path("ips name all", "/ips?name=*".into());
+    let pattern = most(handle_of(AS));
+    path("autnums handle", format!("/autnums?handle={pattern}"));
+    let pattern = most(name_of(AS));
+    path("autnums name", format!("/autnums?name={pattern}"));
+    path("up v4", format!("/ips/rirSearch1/up/{v4}"));
+    path("top v4", format!("/ips/rirSearch1/top/{v4}"));
+    path("down v4", "/ips/rirSearch1/down/0.0.0.0/0".into());
+    path("bottom v4", "/ips/rirSearch1/bottom/0.0.0.0/0".into());
+    path("up v6", format!("/ips/rirSearch1/up/{v6}"));
+    path("down v6", "/ips/rirSearch1/down/::/0".into());
+    path("bottom v6", "/ips/rirSearch1/bottom/::/0".into());
+    path("up as", format!("/autnums/rirSearch1/up/{autnum}"));
+    path("down as", "/autnums/rirSearch1/down/0-4294967295".into());
+    path(
+        "bottom as",
+        "/autnums/rirSearch1/bottom/0-4294967295".into(),
+    );
+    for (kind, relation, record) in [
+        ("third up", Relation::Up, last_block),
+        ("third top", Relation::Top, last_block),
+        ("third down", Relation::Down, 0),
+        ("third bottom", Relation::Bottom, 0),
+    ] {
+        calls.push((kind.into(), Call::Related(relation, record)));
+    }
+    calls.push(("handle".into(), Call::Handle(last)));
+    calls.push(("name".into(), Call::Name(last)));
+    calls
+}
+
+// Measuring
+
+/// One call on one image, and the least time it took so far in `fast` and in
+/// the library.
+struct Cell<'a> {
+    image: &'a [u8],
+    call: Call,
+    least: (f64, f64),
+}
+
+impl Cell<'_> {
+    /// A batch each. They come by turns, and the batches of a cell are spread
+    /// over the whole run, so that other load spoils no cell for good.
+    fn measure(&mut self, list: &mut [u32]) {
+        let (image, call) = (black_box(self.image), black_box(&self.call));
+        let took = batch(self.least.0, || call.fast(image, list));
+        self.least.0 = self.least.0.min(took);
+        if cfg!(feature = "ffi") {
+            let took = batch(self.least.1, || call.subject(image, list));
+            self.least.1 = self.least.1.min(took);
+        }
+    }
+}
+
+/// Nanoseconds a call, of as many as last about BATCH if one lasts `expected`.
+fn batch(expected: f64, mut call: impl FnMut() -> u32) -> f64 {
+    let times = (BATCH / expected).clamp(1.0, 10_000.0) as u32;
+    black_box(call());
+    let start = Instant::now();
+    for _ in 0..times {
+        black_box(call());
+    }
+    start.elapsed().as_nanos() as f64 / f64::from(times)
+}
+
+fn main() {
+    let mut shape = None;
+    let mut kind = None;
+    let mut repetitions = 40;
+    let mut seconds = 100;
+    let mut words = std::env::args().skip(1);
+    while let (Some(word), Some(value)) = (words.next(), words.next()) {
+        match word.as_str() {
+            "--shape" => shape = Some(value),
+            "--kind" => kind = Some(value),
+            "--repetitions" => repetitions = value.parse().expect("a number"),
+            "--seconds" => seconds = value.parse().expect("a number"),
+            _ => panic!("{word}: no such option"),
+        }
+    }
+    let mut list = vec![0; model::MOST_RECORDS];
+    let shapes: Vec<(&str, Vec<Vec<u8>>)> = SHAPES
+        .into_iter()
+        .filter(|name| shape.as_ref().is_none_or(|shape| shape == name))
+        .map(|name| (name, SIZES.map(|size| image(name, size)).to_vec()))
+        .collect();
+
+    // For each shape the kinds of calls, for each of these the sizes.
+    let mut tables: Vec<Vec<(String, Vec<Cell>)>> = Vec::new();
+    for (_, images) in &shapes {
+        let mut rows: Vec<(String, Vec<Cell>)> = Vec::new();
+        for image in images {
+            for (at, (name, call)) in calls(image)
+                .into_iter()
+                .filter(|(name, _)| kind.as_ref().is_none_or(|kind| name.contains(kind)))
+                .enumerate()
+            {
+                assert_eq!(
+                    call.fast(image, &mut list),
+                    call.subject(image, &mut list),
+                    "{name}"
+                );
+                if rows.len() == at {
+                    rows.push((name, Vec::new()));
+                }
+                rows[at].1.push(Cell {
+                    image,
+                    call,
+                    least: (f64::INFINITY, f64::INFINITY),
+                });
+            }
+        }
+        tables.push(rows);
+    }
+    let start = Instant::now();
+    let mut done = 0;
+    while done < repetitions && (done == 0 || start.elapsed().as_secs() < seconds) {
+        done += 1;
+        for (_, cells) in tables.iter_mut().flatten() {
+            for cell in cells {
+                cell.measure(&mut list);
+            }
+        }
+    }
+
+    let (mut worst_ratio, mut worst_growth) = (0.0f64, 0.0f64);
+    for ((name, images), rows) in shapes.iter().zip(&tables) {
+        let bytes: Vec<usize> = images.iter().map(Vec::len).collect();
+        println!("{name}: bytes {bytes:?}");
+        let sizes: String = SIZES.iter().map(|size| format!("{size:>8}")).collect();
+        print!("{:16}  fast {sizes} growth", "ns a call");
+        if cfg!(feature = "ffi") {
+            let short: String = SIZES.iter().map(|size| format!("{size:>7}")).collect();
+            print!("  library {sizes} growth  library/fast {short}");
+        }
+        println!();
+        for (kind, cells) in rows {
+            let line = |column: fn(&Cell) -> f64| -> String {
+                let figures: String = cells
+                    .iter()
+                    .map(|cell| format!("{:>8.0}", column(cell)))
+                    .collect();
+                format!("{figures} {:>6.2}", column(&cells[4]) / column(&cells[3]))
+            };
+            print!("{kind:16}       {}", line(|cell| cell.least.0));
+            if cfg!(feature = "ffi") {
+                let ratios: Vec<f64> = cells
+                    .iter()
+                    .map(|cell| cell.least.1 / cell.least.0)
+                    .collect();
+                worst_ratio = ratios.iter().copied().fold(worst_ratio, f64::max);
+                worst_growth = worst_growth.max(cells[4].least.1 / cells[3].least.1);
+                let ratios: String = ratios.iter().map(|ratio| format!("{ratio:>7.2}")).collect();
+                let library = line(|cell| cell.least.1);
+                print!("          {library}               {ratios}");
+            } else {
+                worst_growth = worst_growth.max(cells[4].least.0 / cells[3].least.0);
+            }
+            println!();
+        }
+        println!();
+    }
+    println!("{done} repetitions");
+    if cfg!(feature = "ffi") {
+        println!("largest library/fast {worst_ratio:.2}");
+    }
+    println!("largest growth {worst_growth:.2}");
+}

@@ -1,0 +1,402 @@
+//! Compares every public function with the model, call by call: the reply, the
+//! whole list afterwards or the part, and that nothing beside them was written.
+//!
+//!     compare [--calls N] [--seed S] [--seconds T] [--image I] [--trace]
+//!
+//! N calls of each function (100,000), from the seed S (1), for at most T
+//! seconds (100). Every image has a number; `--image I` runs the calls on that
+//! one only, and `--trace` writes each call to standard error before it is made.
+//! With the feature `ffi` the library is compared, else src/fast.rs.
+
+use model::generate::{self, Aims, Rng};
+use model::{subject, Checked, Relation, RELATIONS};
+use std::process::ExitCode;
+use std::time::{Duration, Instant};
+
+const FUNCTIONS: [&str; 7] = [
+    "rdap_answer",
+    "rdap_up",
+    "rdap_down",
+    "rdap_top",
+    "rdap_bottom",
+    "rdap_handle",
+    "rdap_name",
+];
+const ANSWER: usize = 0;
+const HANDLE: usize = 5;
+const NAME: usize = 6;
+
+/// After so many differences the run stops.
+const ENOUGH: u64 = 10;
+
+struct Options {
+    calls: u64,
+    seed: u64,
+    seconds: u64,
+    image: Option<u64>,
+    trace: bool,
+}
+
+fn options() -> Result<Options, String> {
+    let mut options = Options {
+        calls: 100_000,
+        seed: 1,
+        seconds: 100,
+        image: None,
+        trace: false,
+    };
+    let mut words = std::env::args().skip(1);
+    while let Some(word) = words.next() {
+        if word == "--trace" {
+            options.trace = true;
+            continue;
+        }
+        let number = words
+            .next()
+            .and_then(|number| number.parse().ok())
+            .ok_or_else(|| format!("{word}: a number is missing"))?;
+        match word.as_str() {
+            "--calls" => options.calls = number,
+            "--seed" => options.seed = number,
+            "--seconds" => options.seconds = number,
+            "--image" => options.image = Some(number),
+            _ => return Err(format!("{word}: no such option")),
+        }
+    }
+    Ok(options)
+}
+
+/// A buffer between two guards.
+struct Guarded<T> {
+    cells: Vec<T>,
+    guard: T,
+    start: usize,
+    length: usize,
+}
+
+const GUARD: usize = 64;
+
+impl<T: Copy + PartialEq> Guarded<T> {
+    fn new(guard: T) -> Guarded<T> {
+        Guarded {
+            cells: Vec::new(),
+            guard,
+            start: GUARD,
+            length: 0,
+        }
+    }
+
+    /// Places new contents, `shift` cells after the usual place.
+    fn place(&mut self, contents: impl ExactSizeIterator<Item = T>, shift: usize) {
+        self.start = GUARD + shift;
+        self.length = contents.len();
+        self.cells.clear();
+        self.cells.resize(self.start, self.guard);
+        self.cells.extend(contents);
+        self.cells
+            .resize(self.start + self.length + GUARD, self.guard);
+    }
+
+    fn contents(&self) -> &[T] {
+        &self.cells[self.start..][..self.length]
+    }
+
+    fn contents_mut(&mut self) -> &mut [T] {
+        &mut self.cells[self.start..][..self.length]
+    }
+
+    fn is_intact(&self) -> bool {
+        let end = self.start + self.length;
+        self.cells[..self.start]
+            .iter()
+            .chain(&self.cells[end..])
+            .all(|&cell| cell == self.guard)
+    }
+}
+
+/// What a place of the list holds before a call.
+fn pattern(place: usize) -> u32 {
+    0xA5A5_0000 ^ (place as u32).wrapping_mul(0x0001_0003)
+}
+
+struct Run {
+    options: Options,
+    calls: [u64; 7],
+    reasons: [u64; 10],
+    defects: [u64; 8],
+    failed: u64,
+    path: Guarded<u8>,
+    image: Guarded<u8>,
+    list: Guarded<u32>,
+    reply: Guarded<u32>,
+}
+
+impl Run {
+    fn is_finished(&self) -> bool {
+        self.calls.iter().all(|&calls| calls >= self.options.calls) || self.failed >= ENOUGH
+    }
+
+    fn image(&mut self, number: u64) {
+        let mut rng = Rng::part(self.options.seed, number);
+        let image = match (number as usize, rng.below(1000)) {
+            // each limit once
+            (which @ 0..generate::LIMITS, _) => generate::limit(&mut rng, which),
+            (_, 0 | 1) => generate::many_blocks(&mut rng),
+            (_, 2..=799) => generate::damaged(&mut rng),
+            _ => generate::sound(&mut rng),
+        };
+        let checked = model::check(&image);
+        self.defects[checked.as_ref().err().map_or(0, |found| found.defect) as usize] += 1;
+        let aims = Aims::new(&image, &checked);
+        // The model is slow on large images, and a defective one has but one
+        // answer.
+        let rounds = match &checked {
+            Err(_) => 3,
+            Ok(records) if records.len() > 400 => 3,
+            Ok(_) => 60,
+        };
+        let shift = rng.below(8);
+        self.image.place(image.iter().copied(), shift);
+        for _ in 0..rounds {
+            if self.failed >= ENOUGH {
+                return;
+            }
+            let path = generate::path(&mut rng, &aims);
+            self.answer(number, &mut rng, &path, &image, &checked);
+            for relation in RELATIONS {
+                let record = generate::record(&mut rng, &aims);
+                self.relation(number, &mut rng, relation, record, &image, &checked);
+            }
+            for function in [HANDLE, NAME] {
+                let record = generate::record(&mut rng, &aims);
+                self.part(number, function, record, &image, &checked);
+            }
+        }
+    }
+
+    fn answer(&mut self, number: u64, rng: &mut Rng, path: &[u8], image: &[u8], checked: &Checked) {
+        let mut expected: Vec<u32> = (0..model::MOST_RECORDS).map(pattern).collect();
+        let full = model::answer_checked(path, image, checked, &mut expected);
+        let places = generate::places(rng, full.count as usize);
+        let mut expected: Vec<u32> = (0..places).map(pattern).collect();
+        let wanted = model::answer_checked(path, image, checked, &mut expected);
+
+        self.trace(number, ANSWER, &format!("{}", path.escape_ascii()));
+        self.prepare(rng, path, places);
+        subject::answer(
+            self.path.contents(),
+            self.image.contents(),
+            self.list.contents_mut(),
+            as_reply(&mut self.reply),
+        );
+        let unchanged = self.path.contents() == path && self.path.is_intact();
+        self.judge(number, ANSWER, path, 0, image, wanted, &expected, unchanged);
+    }
+
+    fn relation(
+        &mut self,
+        number: u64,
+        rng: &mut Rng,
+        relation: Relation,
+        record: u32,
+        image: &[u8],
+        checked: &Checked,
+    ) {
+        let mut expected: Vec<u32> = (0..model::MOST_RECORDS).map(pattern).collect();
+        let full = model::relation_checked(checked, record, relation, &mut expected);
+        let places = generate::places(rng, full.count as usize);
+        let mut expected: Vec<u32> = (0..places).map(pattern).collect();
+        let wanted = model::relation_checked(checked, record, relation, &mut expected);
+
+        let function = relation as usize;
+        self.trace(number, function, &format!("record {record}"));
+        self.prepare(rng, &[], places);
+        subject::relation(
+            relation,
+            self.image.contents(),
+            record,
+            self.list.contents_mut(),
+            as_reply(&mut self.reply),
+        );
+        self.judge(
+            number,
+            function,
+            &[],
+            record,
+            image,
+            wanted,
+            &expected,
+            true,
+        );
+    }
+
+    /// New buffers, and none of them where the last one was.
+    fn prepare(&mut self, rng: &mut Rng, path: &[u8], places: usize) {
+        self.path.place(path.iter().copied(), rng.below(8));
+        self.list.place((0..places).map(pattern), rng.below(4));
+        self.reply.place([0xFFFF_FFFF; 7].into_iter(), rng.below(4));
+    }
+
+    #[allow(clippy::too_many_arguments)]
+    fn judge(
+        &mut self,
+        number: u64,
+        function: usize,
+        path: &[u8],
+        record: u32,
+        image: &[u8],
+        wanted: model::Reply,
+        expected: &[u32],
+        unchanged: bool,
+    ) {
+        self.calls[function] += 1;
+        self.reasons[wanted.reason as usize] += 1;
+        let same_reply = self.reply.contents() == wanted.numbers();
+        let same_list = self.list.contents() == expected;
+        let intact = self.list.is_intact() && self.reply.is_intact();
+        if same_reply && same_list && intact && unchanged && self.image_is_whole(image) {
+            return;
+        }
+        self.report(number, function, image);
+        if function == ANSWER {
+            println!("  path     {}", path.escape_ascii());
+            println!("  path hex {}", hex(path));
+        } else {
+            println!("  record   {record}");
+        }
+        println!("  places   {}", expected.len());
+        println!("  reply    status reason kind relation count defect place");
+        println!("  expected {:?}", wanted.numbers());
+        println!("  got      {:?}", self.reply.contents());
+        if !same_list {
+            let at = (0..expected.len())
+                .find(|&at| self.list.contents()[at] != expected[at])
+                .unwrap_or(0);
+            println!(
+                "  list     place {at}: expected {:#x}, got {:#x}",
+                expected[at],
+                self.list.contents()[at]
+            );
+        }
+        if !intact || !unchanged || !self.image_is_whole(image) {
+            println!("  a byte beside the buffers, or an input, was written");
+            self.image.place(image.iter().copied(), 0);
+        }
+    }
+
+    fn part(&mut self, number: u64, function: usize, record: u32, image: &[u8], checked: &Checked) {
+        let wanted: [u32; 2] = if function == HANDLE {
+            model::handle_part(checked, record).into()
+        } else {
+            model::name_part(checked, record).into()
+        };
+        self.trace(number, function, &format!("record {record}"));
+        self.reply.place([0xFFFF_FFFF; 2].into_iter(), 0);
+        let part: &mut [u32; 2] = self.reply.contents_mut().try_into().expect("two words");
+        if function == HANDLE {
+            subject::handle(self.image.contents(), record, part);
+        } else {
+            subject::name(self.image.contents(), record, part);
+        }
+        self.calls[function] += 1;
+        if self.reply.contents() == wanted && self.reply.is_intact() && self.image_is_whole(image) {
+            return;
+        }
+        self.report(number, function, image);
+        println!("  record   {record}");
+        println!("  expected {wanted:?} (offset, length)");
+        println!("  got      {:?}", self.reply.contents());
+        if !self.reply.is_intact() || !self.image_is_whole(image) {
+            println!("  a byte beside the buffers, or the image, was written");
+            self.image.place(image.iter().copied(), 0);
+        }
+    }
+
+    fn image_is_whole(&self, image: &[u8]) -> bool {
+        self.image.contents() == image && self.image.is_intact()
+    }
+
+    fn report(&mut self, number: u64, function: usize, image: &[u8]) {
+        self.failed += 1;
+        println!(
+            "{} differs; again with --seed {} --image {number}",
+            FUNCTIONS[function], self.options.seed
+        );
+        // A short image is shown; a longer one the options make again.
+        let shown = image.len().min(4096);
+        println!("  image    {} bytes", image.len());
+        println!(
+            "  {}{}",
+            hex(&image[..shown]),
+            if shown < image.len() { "..." } else { "" }
+        );
+    }
+
+    fn trace(&self, number: u64, function: usize, asked: &str) {
+        if self.options.trace {
+            eprintln!("image {number}: {} {asked}", FUNCTIONS[function]);
+        }
+    }
+}
+
+fn as_reply(buffer: &mut Guarded<u32>) -> &mut [u32; 7] {
+    buffer.contents_mut().try_into().expect("seven words")
+}
+
+fn hex(bytes: &[u8]) -> String {
+    bytes.iter().map(|byte| format!("{byte:02x}")).collect()
+}
+
+fn main() -> ExitCode {
+    let options = match options() {
+        Ok(options) => options,
+        Err(message) => {
+            eprintln!("{message}");
+            return ExitCode::FAILURE;
+        }
+    };
+    let start = Instant::now();
+    let limit = Duration::from_secs(options.seconds);
+    let only = options.image;
+    let mut run = Run {
+        options,
+        calls: [0; 7],
+        reasons: [0; 10],
+        defects: [0; 8],
+        failed: 0,
+        path: Guarded::new(0xC3),
+        image: Guarded::new(0x3C),
+        list: Guarded::new(0xDEAD_BEEF),
+        reply: Guarded::new(0xFEED_F00D),
+    };
+    match only {
+        Some(number) => run.image(number),
+        None => {
+            for number in 0.. {
+                if run.is_finished() || start.elapsed() >= limit {
+                    break;
+                }
+                run.image(number);
+            }
+        }
+    }
+    let images: u64 = run.defects.iter().sum();
+    println!(
+        "{} and the model, seed {}, {images} images, {:.1} s",
+        subject::NAME,
+        run.options.seed,
+        start.elapsed().as_secs_f64()
+    );
+    println!("images by defect, from 0 (sound): {:?}", run.defects);
+    println!("replies by reason, from 0: {:?}", run.reasons);
+    for (name, calls) in FUNCTIONS.iter().zip(run.calls) {
+        println!("{name:12} {calls:>9} calls");
+    }
+    let all: u64 = run.calls.iter().sum();
+    println!("{} passed, {} failed", all - run.failed, run.failed);
+    if run.failed == 0 && all > 0 {
+        ExitCode::SUCCESS
+    } else {
+        ExitCode::FAILURE
+    }
+}

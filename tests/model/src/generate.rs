@@ -1,0 +1,1429 @@
+//! Images and paths to compare implementations on, made from a seed.
+//!
+//! Sound images have many shapes; damaged ones start from a sound one. Paths
+//! aim at what the image holds, so that most of them reach the records, and a
+//! part of them is then spoilt.
+
+use crate::{
+    Checked, Range, AS, DOMAIN, ENTITY, IPV4, IPV6, LONGEST_IMAGE, MOST_RECORDS, NAMESERVER,
+    RELATIONS, START,
+};
+use crate::{Record, Relation};
+
+// Numbers
+
+/// SplitMix64.
+pub struct Rng(u64);
+
+impl Rng {
+    pub fn new(seed: u64) -> Rng {
+        Rng(seed)
+    }
+
+    /// A generator for the part `part` of the run with this seed.
+    pub fn part(seed: u64, part: u64) -> Rng {
+        let mut rng = Rng(seed ^ part.wrapping_mul(0xD129_0E2B_95C0_7A4D));
+        rng.word64();
+        rng
+    }
+
+    pub fn word64(&mut self) -> u64 {
+        self.0 = self.0.wrapping_add(0x9E37_79B9_7F4A_7C15);
+        let mut word = self.0;
+        word = (word ^ (word >> 30)).wrapping_mul(0xBF58_476D_1CE4_E5B9);
+        word = (word ^ (word >> 27)).wrapping_mul(0x94D0_49BB_1331_11EB);
+        word ^ (word >> 31)
+    }
+
+    /// From 0 to `bound` less 1.
+    pub fn below(&mut self, bound: usize) -> usize {
+        (self.word64() % bound as u64) as usize
+    }
+
+    /// From `low` to `high`.
+    pub fn between(&mut self, low: usize, high: usize) -> usize {
+        low + self.below(high - low + 1)
+    }
+
+    /// True once in `times`.
+    pub fn once_in(&mut self, times: usize) -> bool {
+        self.below(times) == 0
+    }
+
+    pub fn pick<'a, T>(&mut self, items: &'a [T]) -> &'a T {
+        &items[self.below(items.len())]
+    }
+
+    /// One of the words of a line, which a space parts; a line that starts with
+    /// a space has an empty word.
+    fn word(&mut self, line: &'static str) -> &'static [u8] {
+        let words: Vec<&str> = line.split(' ').collect();
+        self.pick(&words).as_bytes()
+    }
+
+    pub fn wide(&mut self) -> u128 {
+        u128::from(self.word64()) << 64 | u128::from(self.word64())
+    }
+
+    /// An address in a range.
+    fn within(&mut self, range: Range) -> u128 {
+        match (range.last - range.first).checked_add(1) {
+            Some(size) => range.first + self.wide() % size,
+            None => self.wide(),
+        }
+    }
+}
+
+// Records
+
+/// A record to be written. `fields` are its inner fields, tag and contents.
+#[derive(Clone, Debug)]
+pub struct Draft {
+    tag: u8,
+    fields: Vec<(u8, Vec<u8>)>,
+}
+
+impl Draft {
+    pub fn block(tag: u8, range: Range, handle: &[u8], name: &[u8], active: bool) -> Draft {
+        let skipped = if tag == IPV6 { 0 } else { 12 };
+        let contents = [
+            &range.first.to_be_bytes()[skipped..],
+            &range.last.to_be_bytes()[skipped..],
+        ]
+        .concat();
+        Draft {
+            tag,
+            fields: vec![
+                (0x20, contents),
+                (0x21, handle.to_vec()),
+                (0x22, name.to_vec()),
+                (0x23, vec![u8::from(active)]),
+            ],
+        }
+    }
+
+    pub fn other(tag: u8, handle: &[u8], name: &[u8]) -> Draft {
+        Draft {
+            tag,
+            fields: vec![(0x21, handle.to_vec()), (0x22, name.to_vec())],
+        }
+    }
+
+    /// The range of a block that has no defect there.
+    fn range(&self) -> Option<Range> {
+        let number = |bytes: &[u8]| {
+            bytes
+                .iter()
+                .fold(0, |all, &byte| all << 8 | u128::from(byte))
+        };
+        match self.fields.first() {
+            Some((0x20, contents)) if contents.len() == 8 || contents.len() == 32 => {
+                let (first, last) = contents.split_at(contents.len() / 2);
+                let (first, last) = (number(first), number(last));
+                (first <= last).then_some(Range { first, last })
+            }
+            _ => None,
+        }
+    }
+
+    fn set_last(&mut self, last: u128) {
+        let contents = &mut self.fields[0].1;
+        let half = contents.len() / 2;
+        contents[half..].copy_from_slice(&last.to_be_bytes()[16 - half..]);
+    }
+
+    pub fn encode(&self) -> Vec<u8> {
+        let mut contents = Vec::new();
+        for (tag, inner) in &self.fields {
+            contents.push(*tag);
+            contents.extend((inner.len() as u16).to_be_bytes());
+            contents.extend(inner);
+        }
+        let mut record = vec![self.tag];
+        record.extend((contents.len() as u16).to_be_bytes());
+        record.extend(contents);
+        record
+    }
+}
+
+pub fn encode(drafts: &[Draft]) -> Vec<u8> {
+    let mut image = START.to_vec();
+    for draft in drafts {
+        image.extend(draft.encode());
+    }
+    image
+}
+
+// Text
+
+/// How the handles and names of an image look.
+#[derive(Clone, Copy)]
+enum Style {
+    /// Few characters, so that many texts start alike or differ by case only.
+    Few,
+    /// Every allowed character.
+    All,
+    /// As in a registry.
+    Plain,
+}
+
+const LENGTHS: [usize; 12] = [1, 2, 3, 7, 8, 9, 15, 16, 17, 31, 63, 64];
+
+fn text_length(rng: &mut Rng) -> usize {
+    match rng.below(8) {
+        0 => *rng.pick(&LENGTHS),
+        1 => rng.between(1, 64),
+        _ => rng.between(1, 12),
+    }
+}
+
+/// A handle (`low` is 21 hex) or name (20 hex).
+fn text(rng: &mut Rng, style: Style, low: u8) -> Vec<u8> {
+    let length = text_length(rng);
+    match style {
+        Style::Few => {
+            let alphabet: &[u8] = if low == 0x20 { b"aAbB -" } else { b"aAbB1-" };
+            (0..length.min(6)).map(|_| *rng.pick(alphabet)).collect()
+        }
+        Style::All => {
+            let mut text = Vec::new();
+            while text.len() < length {
+                let byte = rng.between(usize::from(low), 0x7E) as u8;
+                if byte != b'*' {
+                    text.push(byte);
+                }
+            }
+            text
+        }
+        Style::Plain => {
+            let start = *rng.pick(&["NET-", "AS", "Lab ", "ENT-", "physics"]);
+            let mut text = format!("{start}{}", rng.below(300)).into_bytes();
+            text.retain(|&byte| byte >= low);
+            text
+        }
+    }
+}
+
+fn label(rng: &mut Rng, length: usize) -> Vec<u8> {
+    let ends = b"abcdefghijklmnopqrstuvwxyz0123456789";
+    let mut label: Vec<u8> = (0..length)
+        .map(|_| *rng.pick(b"abcdefghijklmnopqrstuvwxyz0123456789-----"))
+        .collect();
+    label[0] = *rng.pick(ends);
+    label[length - 1] = *rng.pick(ends);
+    label
+}
+
+/// A host name in lower case.
+fn host(rng: &mut Rng) -> Vec<u8> {
+    let words: [&[u8]; 12] = [
+        b"a",
+        b"b",
+        b"ab",
+        b"a-b",
+        b"www",
+        b"ns1",
+        b"ns2",
+        b"exam",
+        b"example",
+        b"com",
+        b"org",
+        b"xn--fo-5ja",
+    ];
+    match rng.below(12) {
+        // the longest there is, and nearly
+        0 => {
+            let last = rng.between(58, 61);
+            [63, 63, 63, last]
+                .map(|length| label(rng, length))
+                .join(&b'.')
+        }
+        1 => {
+            let length = *rng.pick(&[1, 2, 7, 8, 9, 15, 16, 17, 62, 63]);
+            let first = label(rng, length);
+            [&first, *rng.pick(&words)].join(&b'.')
+        }
+        2 => {
+            let length = rng.between(1, 63);
+            label(rng, length)
+        }
+        3 => {
+            let mut labels = vec![label(rng, 1)];
+            while labels.concat().len() + 2 * labels.len() < 250 && !rng.once_in(40) {
+                let length = rng.between(1, 3);
+                labels.push(label(rng, length));
+            }
+            let mut name = labels.join(&b'.');
+            name.truncate(253);
+            while matches!(name.last(), Some(b'.' | b'-')) {
+                name.pop();
+            }
+            name
+        }
+        _ => {
+            let count = rng.between(1, 4);
+            (0..count)
+                .map(|_| *rng.pick(&words))
+                .collect::<Vec<_>>()
+                .join(&b'.')
+        }
+    }
+}
+
+// Blocks: first laid out as pairs of small numbers, then spread over the
+// addresses of a family.
+
+/// Pairs that are nested or disjoint and lie below `size`, in no order.
+fn layout(rng: &mut Rng, count: usize, size: usize) -> Vec<(usize, usize)> {
+    let mut pairs: Vec<(usize, usize)> = Vec::new();
+    match rng.below(6) {
+        // anything that fits with what is there
+        0 | 1 if count <= 200 => {
+            for _ in 0..3 * count {
+                if pairs.len() == count {
+                    break;
+                }
+                let width = match rng.below(3) {
+                    0 => size,
+                    1 => 8.min(size),
+                    _ => 2,
+                };
+                let first = rng.below(size);
+                let last = (first + rng.below(width)).min(size - 1);
+                let fits = pairs.iter().all(|&(start, end)| {
+                    last < start
+                        || end < first
+                        || (start <= first && last <= end && (start, end) != (first, last))
+                        || (first <= start && end <= last && (start, end) != (first, last))
+                });
+                if fits {
+                    pairs.push((first, last));
+                }
+            }
+        }
+        // side by side, often touching
+        0..=2 => {
+            let mut at = 0;
+            while at < size && pairs.len() < count {
+                let last = (at + rng.below(3)).min(size - 1);
+                pairs.push((at, last));
+                at = last + 1 + usize::from(rng.once_in(3));
+            }
+        }
+        // one in the other
+        3 => {
+            let (mut first, mut last) = (0, size - 1);
+            while pairs.len() < count {
+                pairs.push((first, last));
+                let (more, less) = match rng.below(3) {
+                    0 => (1, 0),
+                    1 => (0, 1),
+                    _ => (1, 1),
+                };
+                if first + more + less > last {
+                    break;
+                }
+                (first, last) = (first + more, last - less);
+            }
+        }
+        // halves of halves
+        4 => {
+            let mut open = vec![(0, size - 1)];
+            while !open.is_empty() && pairs.len() < count {
+                let at = rng.below(open.len());
+                let (first, last) = open.swap_remove(at);
+                if !rng.once_in(4) {
+                    pairs.push((first, last));
+                }
+                if first < last {
+                    let middle = first + (last - first) / 2;
+                    open.push((first, middle));
+                    open.push((middle + 1, last));
+                }
+            }
+        }
+        // cut at random places
+        _ => {
+            let mut open = vec![(0, size - 1)];
+            while !open.is_empty() && pairs.len() < count {
+                let at = rng.below(open.len());
+                let (first, last) = open.swap_remove(at);
+                pairs.push((first, last));
+                if first < last {
+                    let cut = rng.between(first, last - 1);
+                    open.push((first, cut));
+                    open.push((cut + 1, last));
+                }
+            }
+        }
+    }
+    pairs
+}
+
+fn largest(tag: u8) -> u128 {
+    if tag == IPV6 {
+        u128::MAX
+    } else {
+        u128::from(u32::MAX)
+    }
+}
+
+/// Spreads pairs below `size` over a family. Neighbours stay neighbours in most
+/// of the ways.
+fn spread(rng: &mut Rng, tag: u8, pairs: &[(usize, usize)], size: usize) -> Vec<Range> {
+    let most = largest(tag);
+    let size = size as u128;
+    let half = 1u128 << 64;
+    // Each number stands for the addresses from `base + step * number` on,
+    // `step` of them less `gap`.
+    let (base, step, gap) = match (rng.below(8), tag) {
+        (0, _) => (0, 1, 0),
+        (1, _) => (most - size + 1, 1, 0),
+        (2, _) => (0, most / size, 0),
+        // a power of two each, so that the blocks are prefixes
+        (3 | 4, _) => {
+            let step = 1 << rng.below(if tag == IPV6 { 112 } else { 16 });
+            (0, step, 0)
+        }
+        (5, _) => (0, most / size, most / size / 3),
+        // about the border of the low half
+        (6, IPV6) => (half - size / 2, 1, 0),
+        // the high half differs, and the low one too or not at all
+        (7, IPV6) => (
+            u128::from(rng.word64()),
+            half * (1 + rng.below(3) as u128),
+            *rng.pick(&[0, half - 1]),
+        ),
+        _ => ((rng.wide() % (most - size)) >> rng.below(20), 1, 0),
+    };
+    // The high half grows while the low one falls.
+    let falling = tag == IPV6 && step >= half && rng.once_in(3);
+    let start = |number: u128| {
+        let first = base + step * number;
+        if falling {
+            (first & !(half - 1)) | (half - 1 - number)
+        } else {
+            first
+        }
+    };
+    pairs
+        .iter()
+        .map(|&(first, last)| {
+            let (first, last) = (first as u128, last as u128);
+            Range {
+                first: start(first),
+                last: if falling {
+                    start(last)
+                } else {
+                    base + step * last + (step - 1) - gap.min(step - 1)
+                },
+            }
+        })
+        .collect()
+}
+
+fn blocks(rng: &mut Rng, tag: u8, count: usize, style: Style) -> Vec<Draft> {
+    let size = if count <= 40 && rng.once_in(2) {
+        64
+    } else {
+        (2 * count + 2).next_power_of_two()
+    };
+    let pairs = layout(rng, count, size);
+    let mut ranges = spread(rng, tag, &pairs, size);
+    // the whole space, 0.0.0.0/0 or ::/0
+    if rng.once_in(4) {
+        ranges.push(Range {
+            first: 0,
+            last: largest(tag),
+        });
+    }
+    ranges.sort_by_key(|range| (range.first, !range.last));
+    ranges.dedup();
+    ranges
+        .into_iter()
+        .map(|range| {
+            let handle = text(rng, style, 0x21);
+            let name = text(rng, style, 0x20);
+            Draft::block(tag, range, &handle, &name, !rng.once_in(3))
+        })
+        .collect()
+}
+
+fn others(rng: &mut Rng, tag: u8, count: usize, style: Style) -> Vec<Draft> {
+    let sorted = usize::from(tag != ENTITY);
+    let mut drafts: Vec<Draft> = (0..count)
+        .map(|_| {
+            let handle = text(rng, style, 0x21);
+            let name = if tag == ENTITY {
+                text(rng, style, 0x20)
+            } else {
+                host(rng)
+            };
+            Draft::other(tag, &handle, &name)
+        })
+        .collect();
+    drafts.sort_by(|left, right| left.fields[sorted].1.cmp(&right.fields[sorted].1));
+    drafts.dedup_by(|left, right| left.fields[sorted].1 == right.fields[sorted].1);
+    drafts
+}
+
+/// The records of a sound image.
+pub fn drafts(rng: &mut Rng) -> Vec<Draft> {
+    let style = *rng.pick(&[Style::Few, Style::All, Style::Plain, Style::Plain]);
+    let most = match rng.below(40) {
+        0 => 300,
+        1..=3 => 60,
+        4..=9 => 3,
+        _ => 20,
+    };
+    let mut drafts = Vec::new();
+    let only = rng.once_in(8).then(|| rng.pick(&[IPV4, IPV6, AS]));
+    for tag in IPV4..=ENTITY {
+        let wanted = match only {
+            Some(&only) => only == tag,
+            None => !rng.once_in(4),
+        };
+        if wanted {
+            let count = rng.between(1, most);
+            drafts.extend(if tag <= AS {
+                blocks(rng, tag, count, style)
+            } else {
+                others(rng, tag, count, style)
+            });
+        }
+    }
+    drafts
+}
+
+pub fn sound(rng: &mut Rng) -> Vec<u8> {
+    encode(&drafts(rng))
+}
+
+/// A record that sorts after those of this kind made with a lower number, of
+/// `length` bytes, 23 to 275.
+fn numbered(number: usize, length: usize) -> Vec<u8> {
+    let mut name = format!("{number:05}").into_bytes();
+    while name.len() + 10 < length {
+        name.push(if name.len() % 60 == 0 { b'.' } else { b'x' });
+    }
+    if name.last() == Some(&b'.') {
+        name.pop();
+        name.push(b'x');
+    }
+    Draft::other(NAMESERVER, b"h", &name).encode()
+}
+
+/// How many images `limit` makes.
+pub const LIMITS: usize = 13;
+
+/// An image at a limit or one or two past it: 4,094 to 4,098 records, 262,142
+/// to 262,146 bytes, 4,095 or 4,096 records with a byte after them, and 4,096
+/// with one after them that has a defect of its own.
+pub fn limit(rng: &mut Rng, which: usize) -> Vec<u8> {
+    let mut image = START.to_vec();
+    match which % LIMITS {
+        which @ (0..5 | 10..) => {
+            let count = match which {
+                10 => MOST_RECORDS - 1,
+                11.. => MOST_RECORDS,
+                _ => MOST_RECORDS - 2 + which,
+            };
+            for number in 0..count {
+                let length = rng.between(23, 30);
+                image.extend(numbered(number, length));
+            }
+            match which {
+                10 | 11 => image.push(NAMESERVER),
+                12 => image.extend(numbered(0, 23)),
+                _ => {}
+            }
+        }
+        which => {
+            let length = LONGEST_IMAGE - 2 + (which - 5);
+            let mut number = 0;
+            while image.len() < length {
+                let left = length - image.len();
+                let next = match left {
+                    401.. => rng.between(230, 263),
+                    264..=400 => left / 2,
+                    _ => left,
+                };
+                image.extend(numbered(number, next));
+                number += 1;
+            }
+        }
+    }
+    image
+}
+
+/// Up to 4,096 blocks of one family, sound.
+pub fn many_blocks(rng: &mut Rng) -> Vec<u8> {
+    let tag = *rng.pick(&[IPV4, IPV6, AS]);
+    let count = rng.between(500, 4000);
+    let mut drafts = blocks(rng, tag, count, Style::Few);
+    drafts.truncate(MOST_RECORDS);
+    encode(&drafts)
+}
+
+// Damage
+
+/// An image that mostly has a defect.
+pub fn damaged(rng: &mut Rng) -> Vec<u8> {
+    let mut drafts = drafts(rng);
+    let times = if rng.once_in(4) { 2 } else { 1 };
+    if drafts.is_empty() || rng.once_in(3) {
+        let mut image = encode(&drafts);
+        for _ in 0..times {
+            damage_bytes(rng, &mut image);
+        }
+        return image;
+    }
+    for _ in 0..times {
+        damage_records(rng, &mut drafts);
+    }
+    encode(&drafts)
+}
+
+fn damage_bytes(rng: &mut Rng, image: &mut Vec<u8>) {
+    // Half of the time at the start of a field, where tags and lengths are.
+    let mut at = rng.below(image.len().max(1));
+    if rng.once_in(2) {
+        while at + 1 < image.len() && !(0x10..=0x23).contains(&image[at]) {
+            at += 1;
+        }
+        at = (at + rng.below(3)).min(image.len().saturating_sub(1));
+    }
+    match rng.below(10) {
+        0 => image.truncate(at),
+        1 => {
+            let left = rng.below(5);
+            image.truncate(left);
+        }
+        2 => {
+            let more = rng.between(1, 8);
+            image.extend((0..more).map(|at| [0x15, 0, 2, 0x21, 0, 0, 1, 2][at]));
+        }
+        3 if !image.is_empty() => {
+            image.remove(at);
+        }
+        4 => image.insert(at, rng.word64() as u8),
+        5 if image.len() > 4 => {
+            let start = rng.below(4);
+            image[start] ^= 1 << rng.below(8);
+        }
+        6 if !image.is_empty() => image[at] = rng.word64() as u8,
+        7 if !image.is_empty() => {
+            image[at] = image[at].wrapping_add(*rng.pick(&[1, 255]));
+        }
+        _ if !image.is_empty() => image[at] ^= 1 << rng.below(8),
+        _ => image.push(1),
+    }
+}
+
+fn damage_records(rng: &mut Rng, drafts: &mut Vec<Draft>) {
+    if drafts.is_empty() {
+        return;
+    }
+    let at = rng.below(drafts.len());
+    let other = rng.below(drafts.len());
+    let next = (at + 1).min(drafts.len() - 1);
+    match rng.below(22) {
+        0 => drafts.swap(at, other),
+        1 => drafts.swap(at, next),
+        2 => {
+            let copy = drafts[at].clone();
+            drafts.insert(next, copy);
+        }
+        3 => {
+            let copy = drafts[at].clone();
+            drafts.insert(other, copy);
+        }
+        4 => {
+            drafts.remove(at);
+        }
+        5 => drafts[at].tag = rng.between(0x0F, 0x17) as u8,
+        6 => {
+            let field = rng.below(drafts[at].fields.len());
+            drafts[at].fields.remove(field);
+        }
+        7 => {
+            let field = rng.below(drafts[at].fields.len());
+            let copy = drafts[at].fields[field].clone();
+            drafts[at].fields.insert(field, copy);
+        }
+        8 => {
+            let field = rng.below(drafts[at].fields.len());
+            let last = drafts[at].fields.len() - 1;
+            drafts[at].fields.swap(field, last);
+        }
+        9 => {
+            let field = rng.below(drafts[at].fields.len());
+            drafts[at].fields[field].0 = rng.between(0x1F, 0x24) as u8;
+        }
+        10 | 11 => damage_range(rng, &mut drafts[at]),
+        12..=15 => overlap(rng, drafts),
+        16 | 17 => {
+            let is_host = |draft: &&mut Draft| draft.tag == DOMAIN || draft.tag == NAMESERVER;
+            let mut hosts: Vec<&mut Draft> = drafts.iter_mut().filter(is_host).collect();
+            if !hosts.is_empty() {
+                let at = rng.below(hosts.len());
+                if let Some((_, name)) = hosts[at].fields.last_mut() {
+                    damage_host(rng, name);
+                }
+            }
+        }
+        _ => damage_contents(rng, &mut drafts[at]),
+    }
+}
+
+/// Makes two blocks of a family overlap, mostly so that they stay sorted.
+fn overlap(rng: &mut Rng, drafts: &mut [Draft]) {
+    let blocks = drafts.iter().filter(|draft| draft.tag <= AS).count();
+    if blocks < 2 {
+        return;
+    }
+    let at = rng.below(blocks - 1);
+    let other = rng.between(at + 1, (at + 4).min(blocks - 1));
+    let (Some(left), Some(right)) = (drafts[at].range(), drafts[other].range()) else {
+        return;
+    };
+    if drafts[at].tag != drafts[other].tag {
+        return;
+    }
+    if right.last <= left.last {
+        // the inner one sticks out
+        let last = left.last.saturating_add(1 + rng.below(3) as u128);
+        drafts[other].set_last(last.min(largest(drafts[other].tag)));
+    } else {
+        // the first one reaches into the second
+        let last = rng.within(right);
+        drafts[at].set_last(last);
+    }
+}
+
+/// Moves an end of a block a little, or swaps the ends.
+fn damage_range(rng: &mut Rng, draft: &mut Draft) {
+    if draft.range().is_none() {
+        return damage_contents(rng, draft);
+    }
+    let contents = &mut draft.fields[0].1;
+    let half = contents.len() / 2;
+    if rng.once_in(5) {
+        contents.rotate_left(half);
+        return;
+    }
+    // the lowest byte of the end, or any other
+    let byte = if rng.once_in(2) {
+        half - 1
+    } else {
+        rng.below(half)
+    };
+    let at = byte + half * rng.below(2);
+    let step = *rng.pick(&[1, 2, 255, 254, 16, 128]);
+    contents[at] = contents[at].wrapping_add(step);
+}
+
+fn damage_contents(rng: &mut Rng, draft: &mut Draft) {
+    let tag = draft.tag;
+    if draft.fields.is_empty() {
+        return;
+    }
+    let at = rng.below(draft.fields.len());
+    let (field, contents) = &mut draft.fields[at];
+    match *field {
+        0x20 => {
+            let length = *rng.pick(&[0, 4, 7, 8, 9, 16, 31, 32, 33, 64]);
+            contents.resize(length, 0);
+        }
+        0x23 => {
+            *contents = rng
+                .pick(&[vec![], vec![2], vec![255], vec![0, 1], vec![1, 0], vec![0]])
+                .clone();
+        }
+        0x22 if tag == DOMAIN || tag == NAMESERVER => damage_host(rng, contents),
+        _ => match rng.below(4) {
+            0 => {
+                let length = *rng.pick(&[0, 1, 63, 64, 65, 66, 255, 256, 257, 300]);
+                contents.resize(length, b'z');
+            }
+            _ if contents.is_empty() => contents.push(0),
+            _ => {
+                let at = rng.below(contents.len());
+                contents[at] = *rng.pick(&[
+                    0, 0x1F, 0x20, 0x21, b'*', b'+', b')', 0x7D, 0x7E, 0x7F, 0x80, 0xAA, 0xFF,
+                ]);
+            }
+        },
+    }
+}
+
+fn damage_host(rng: &mut Rng, name: &mut Vec<u8>) {
+    let at = rng.below(name.len().max(1));
+    let dots: Vec<usize> = (0..name.len()).filter(|&at| name[at] == b'.').collect();
+    match rng.below(11) {
+        0 => name.insert(at.min(name.len()), *rng.pick(b".-")),
+        1 => name.push(*rng.pick(b".-")),
+        2 => name.insert(0, *rng.pick(b".-")),
+        3 => name.clear(),
+        // a label of 63 or 64 bytes
+        4 => {
+            let length = rng.between(62, 65);
+            *name = vec![b'q'; length];
+            if rng.once_in(2) {
+                name.extend(b".com");
+            }
+            if rng.once_in(2) {
+                insert(name, 0, b"a.");
+            }
+        }
+        // 253, 254 or 255 bytes
+        5 => {
+            let last = rng.between(60, 63);
+            *name = [63, 63, 63, last]
+                .map(|length| label(rng, length))
+                .join(&b'.');
+        }
+        6 => name.extend(b".x".repeat(130)),
+        // beside a dot
+        7 | 8 if !dots.is_empty() => {
+            let at = *rng.pick(&dots) + rng.below(2);
+            name.insert(at, *rng.pick(b".-"));
+        }
+        _ if !name.is_empty() => {
+            name[at] = *rng.pick(b"ABZ@[`{/:_*., -\x00\x7F\x80\xAD\xAE\xE1\xFF");
+        }
+        _ => name.push(b'-'),
+    }
+}
+
+// Aims
+
+/// What the paths for an image aim at.
+pub struct Aims {
+    blocks: Vec<(u8, Range)>,
+    handles: Vec<(u8, Vec<u8>)>,
+    names: Vec<(u8, Vec<u8>)>,
+    records: usize,
+}
+
+impl Aims {
+    pub fn new(image: &[u8], checked: &Checked) -> Aims {
+        let none = Vec::new();
+        let records: &Vec<Record> = checked.as_ref().unwrap_or(&none);
+        let text = |part: crate::Part| image[part.offset..][..part.length].to_vec();
+        Aims {
+            blocks: records
+                .iter()
+                .filter_map(|record| Some((record.tag, record.range?)))
+                .collect(),
+            handles: records
+                .iter()
+                .map(|record| (record.tag, text(record.handle)))
+                .collect(),
+            names: records
+                .iter()
+                .map(|record| (record.tag, text(record.name)))
+                .collect(),
+            records: records.len(),
+        }
+    }
+
+    fn block(&self, rng: &mut Rng, family: u8) -> Range {
+        let blocks: Vec<Range> = self
+            .blocks
+            .iter()
+            .filter(|block| block.0 == family)
+            .map(|block| block.1)
+            .collect();
+        if blocks.is_empty() || rng.once_in(20) {
+            let most = largest(family);
+            let first = rng.wide() & most;
+            return Range {
+                first,
+                last: first | (rng.wide() & most),
+            };
+        }
+        *rng.pick(&blocks)
+    }
+
+    fn handle(&self, rng: &mut Rng, tags: &[u8]) -> Vec<u8> {
+        pick_text(rng, &self.handles, tags).unwrap_or_else(|| text(rng, Style::Few, 0x21))
+    }
+
+    fn name(&self, rng: &mut Rng, tags: &[u8]) -> Vec<u8> {
+        pick_text(rng, &self.names, tags).unwrap_or_else(|| text(rng, Style::Few, 0x20))
+    }
+
+    fn host(&self, rng: &mut Rng, tag: u8) -> Vec<u8> {
+        pick_text(rng, &self.names, &[tag]).unwrap_or_else(|| host(rng))
+    }
+}
+
+fn pick_text(rng: &mut Rng, texts: &[(u8, Vec<u8>)], tags: &[u8]) -> Option<Vec<u8>> {
+    let of_tag: Vec<&Vec<u8>> = texts
+        .iter()
+        .filter(|text| tags.contains(&text.0))
+        .map(|text| &text.1)
+        .collect();
+    if of_tag.is_empty() || rng.once_in(25) {
+        None
+    } else {
+        Some((*rng.pick(&of_tag)).clone())
+    }
+}
+
+/// A record number, mostly of a record that exists.
+pub fn record(rng: &mut Rng, aims: &Aims) -> u32 {
+    let count = aims.records as u32;
+    match rng.below(16) {
+        0 => count,
+        1 => *rng.pick(&[
+            count + 1,
+            u32::MAX,
+            u32::MAX - 1,
+            1 << 31,
+            4095,
+            4096,
+            65_536,
+            count.wrapping_add(1 << 16),
+        ]),
+        // mostly blocks, which come first
+        2..=10 if !aims.blocks.is_empty() => rng.below(aims.blocks.len()) as u32,
+        _ => rng.below(aims.records.max(1)) as u32,
+    }
+}
+
+/// A length for the list where `count` places are needed.
+pub fn places(rng: &mut Rng, count: usize) -> usize {
+    match rng.below(6) {
+        0 => 0,
+        1 => count.saturating_sub(1),
+        2 | 3 => count,
+        4 => count + 1,
+        _ => MOST_RECORDS,
+    }
+}
+
+// Paths
+
+/// A path that aims at the image, most of the time without a fault.
+pub fn path(rng: &mut Rng, aims: &Aims) -> Vec<u8> {
+    let faulty = rng.below(100) < 35;
+    let mut path = draft_path(rng, aims, faulty);
+    if faulty {
+        match rng.below(8) {
+            0..=2 => spoil_bytes(rng, &mut path),
+            3..=4 => spoil_structure(rng, &mut path),
+            5 => {
+                // an escape from %80 up, in the last segment or the contents of
+                // a parameter
+                let escape = format!("%{:02X}", rng.between(0x7E, 0xFF));
+                path.extend(escape.into_bytes());
+            }
+            _ => {}
+        }
+    }
+    if rng.once_in(150) {
+        stretch(rng, &mut path);
+    }
+    path
+}
+
+/// Lengthens a path to about 1,024 bytes.
+fn stretch(rng: &mut Rng, path: &mut Vec<u8>) {
+    let length = rng.between(1022, 1027);
+    if path.len() + 3 < length {
+        path.push(if path.contains(&b'?') { b'&' } else { b'?' });
+        path.push(b'x');
+        if rng.once_in(2) {
+            path.push(b'=');
+        }
+        path.resize(length, *rng.pick(b"a=?/&"));
+    } else {
+        path.resize(length, b'a');
+    }
+}
+
+fn draft_path(rng: &mut Rng, aims: &Aims, faulty: bool) -> Vec<u8> {
+    let mut path = Vec::new();
+    match rng.below(100) {
+        0..=21 => {
+            path.extend(b"/ip/");
+            network(rng, aims, faulty, &mut path);
+        }
+        22..=45 => {
+            path.extend(b"/ips/rirSearch1/");
+            path.extend(relation_name(*rng.pick(&RELATIONS)));
+            path.push(b'/');
+            network(rng, aims, faulty, &mut path);
+        }
+        46..=52 => {
+            path.extend(b"/autnum/");
+            let range = aims.block(rng, AS);
+            let number = near(rng, range, AS);
+            decimal(rng, number, faulty, &mut path);
+        }
+        53..=62 => {
+            path.extend(b"/autnums/rirSearch1/");
+            path.extend(relation_name(*rng.pick(&RELATIONS)));
+            path.push(b'/');
+            numbers(rng, aims, faulty, &mut path);
+        }
+        63..=67 => {
+            path.extend(b"/domain/");
+            let name = aims.host(rng, DOMAIN);
+            host_segment(rng, name, faulty, &mut path);
+        }
+        68..=71 => {
+            path.extend(b"/nameserver/");
+            let name = aims.host(rng, NAMESERVER);
+            host_segment(rng, name, faulty, &mut path);
+        }
+        72..=76 => {
+            path.extend(b"/entity/");
+            let mut handle = aims.handle(rng, &[ENTITY]);
+            if faulty {
+                spoil_text(rng, &mut handle);
+            }
+            escaped(rng, &handle, &mut path);
+        }
+        77 => path.extend(b"/help"),
+        _ => search(rng, aims, faulty, &mut path),
+    }
+    // Parameters that mean nothing there.
+    if rng.once_in(12) && !path.contains(&b'?') {
+        path.extend(rng.word(
+            "? ?x ?x=y ?status ?name=a&name=b ?a?b/c ?status=active ?nsIp=1 ?&&=&== ?q=%7F%00",
+        ));
+    }
+    path
+}
+
+pub fn relation_name(relation: Relation) -> &'static [u8] {
+    match relation {
+        Relation::Up => b"up",
+        Relation::Down => b"down",
+        Relation::Top => b"top",
+        Relation::Bottom => b"bottom",
+    }
+}
+
+/// An address in or beside a range.
+fn near(rng: &mut Rng, range: Range, family: u8) -> u128 {
+    match rng.below(8) {
+        0 | 1 => range.first,
+        2 | 3 => range.last,
+        4 => range.first.saturating_sub(1),
+        5 => range.last.saturating_add(1).min(largest(family)),
+        _ => rng.within(range),
+    }
+}
+
+/// An address, with a prefix length or not.
+fn network(rng: &mut Rng, aims: &Aims, faulty: bool, path: &mut Vec<u8>) {
+    let has_v4 = aims.blocks.iter().any(|block| block.0 == IPV4);
+    let has_v6 = aims.blocks.iter().any(|block| block.0 == IPV6);
+    let family = match (has_v4, has_v6) {
+        (true, false) if !rng.once_in(10) => IPV4,
+        (false, true) if !rng.once_in(10) => IPV6,
+        _ => *rng.pick(&[IPV4, IPV6]),
+    };
+    let bits: u32 = if family == IPV6 { 128 } else { 32 };
+    let range = aims.block(rng, family);
+    let mut address = near(rng, range, family);
+    // The bits after the prefix.
+    let mut after = 0;
+    let has_length = rng.below(3) > 0;
+    if has_length {
+        let size = range.last - range.first;
+        let width = 128 - size.leading_zeros();
+        after = match rng.below(8) {
+            // the block itself, if it is a prefix, or about its size
+            0..=2 => {
+                address = range.first;
+                width
+            }
+            3 => width + 1,
+            4 => width.saturating_sub(1),
+            5 => address.trailing_zeros(),
+            6 => rng.below(bits as usize + 1) as u32,
+            _ => *rng.pick(&[0, 1, bits, bits - 1]),
+        }
+        .min(bits);
+        if !(faulty && rng.once_in(6)) {
+            address &= u128::MAX.checked_shl(after).unwrap_or(0);
+        }
+        // one bit that should be zero
+        if faulty && after > 0 && rng.once_in(4) {
+            address |= 1 << rng.below(after as usize);
+        }
+    }
+    let mut text = if family == IPV6 {
+        ipv6(rng, address)
+    } else {
+        std::net::Ipv4Addr::from(address as u32)
+            .to_string()
+            .into_bytes()
+    };
+    if faulty && rng.once_in(2) {
+        spoil_address(rng, &mut text);
+    }
+    escaped(rng, &text, path);
+    if has_length {
+        path.push(b'/');
+        let length = u128::from(bits - after);
+        let faulty = faulty && rng.once_in(3);
+        decimal(rng, length, faulty, path);
+    }
+}
+
+/// One of the many spellings of an address.
+fn ipv6(rng: &mut Rng, address: u128) -> Vec<u8> {
+    let groups: Vec<u16> = (0..8)
+        .map(|at| (address >> (112 - 16 * at)) as u16)
+        .collect();
+    let tail = rng.once_in(5);
+    let written = if tail { 6 } else { 8 };
+    let mut texts: Vec<String> = groups[..written]
+        .iter()
+        .map(|group| match rng.below(6) {
+            0 => format!("{group:04x}"),
+            1 => format!("{group:04X}"),
+            2 => format!("{group:X}"),
+            3 => format!("{group:02x}"),
+            _ => format!("{group:x}"),
+        })
+        .collect();
+    if tail {
+        texts.push(std::net::Ipv4Addr::from(address as u32).to_string());
+    }
+    // A run of zero groups that `::` may stand for.
+    let zeros: Vec<usize> = (0..written).filter(|&at| groups[at] == 0).collect();
+    if !zeros.is_empty() && !rng.once_in(4) {
+        let start = *rng.pick(&zeros);
+        let mut end = start + 1;
+        while end < written && groups[end] == 0 && !rng.once_in(6) {
+            end += 1;
+        }
+        let mut start = start;
+        while start > 0 && groups[start - 1] == 0 && !rng.once_in(6) {
+            start -= 1;
+        }
+        return format!("{}::{}", texts[..start].join(":"), texts[end..].join(":")).into_bytes();
+    }
+    texts.join(":").into_bytes()
+}
+
+fn insert(text: &mut Vec<u8>, at: usize, more: &[u8]) {
+    text.splice(at..at, more.iter().copied()).for_each(drop);
+}
+
+fn spoil_address(rng: &mut Rng, text: &mut Vec<u8>) {
+    let at = rng.below(text.len() + 1);
+    let marks: Vec<usize> = (0..text.len())
+        .filter(|&at| text[at] == b':' || text[at] == b'.')
+        .collect();
+    match rng.below(12) {
+        // `::` for no group, or a second one
+        0 if !marks.is_empty() => {
+            let at = *rng.pick(&marks);
+            text.insert(at, b':');
+        }
+        1 => text.extend(b"::"),
+        2 => insert(text, 0, b"::"),
+        3 if !marks.is_empty() => {
+            let at = *rng.pick(&marks);
+            text.remove(at);
+        }
+        4 if !marks.is_empty() => {
+            // a leading zero, or one digit too many
+            let at = *rng.pick(&marks) + 1;
+            insert(text, at, rng.word("0 00 fff 25"));
+        }
+        5 => text.extend(rng.word("%eth0 %25eth0 : . :0 .0 :1.2.3.4 -")),
+        6 => insert(text, 0, rng.word(": 0 . 1: ::1.2.3.4: [")),
+        7 => {
+            let bytes = b"0123456789abcdefABCDEFgG:.xX+-";
+            text.insert(at, *rng.pick(bytes));
+        }
+        8 if !text.is_empty() => {
+            text.remove(at.min(text.len() - 1));
+        }
+        9 => text.truncate(at),
+        10 => {
+            *text = rng
+                .word(
+                    " 1:2:3:4:5:6:7:: 1:2:3:4:5:6:7:8:: ::1:2:3:4:5:6:7 \
+                ::1:2:3:4:5:6:7:8 1:2:3::4:5:6:7:8 1:2:3:4:5:6:1.2.3.4 1:2:3:4:5::1.2.3.4 \
+                1:2:3:4:5:6::1.2.3.4 ::1.2.3.4 1.2.3.4:: ::1.2.3.4:5 ::1.2.3.256 ::1.2.3.04 \
+                256.0.0.1 0.0.0.0 00.0.0.0 1.2.3 1.2.3.4.5 :: : :::",
+                )
+                .to_vec()
+        }
+        _ => text.make_ascii_uppercase(),
+    }
+}
+
+fn decimal(rng: &mut Rng, number: u128, faulty: bool, path: &mut Vec<u8>) {
+    let mut text = number.to_string().into_bytes();
+    if faulty {
+        match rng.below(7) {
+            0 => text.insert(0, b'0'),
+            1 => text.push(*rng.pick(b"0123456789-+ a.")),
+            2 => text.insert(0, *rng.pick(b"-+123456789AaS")),
+            3 => text.clear(),
+            4 => {
+                text = rng
+                    .word(
+                        "4294967295 4294967296 9999999999 99999999999999999999 \
+                    18446744073709551616 340282366920938463463374607431768211456 129 33 00",
+                    )
+                    .to_vec()
+            }
+            _ => {}
+        }
+    }
+    escaped(rng, &text, path);
+}
+
+fn numbers(rng: &mut Rng, aims: &Aims, faulty: bool, path: &mut Vec<u8>) {
+    let range = aims.block(rng, AS);
+    if rng.once_in(3) {
+        let number = near(rng, range, AS);
+        return decimal(rng, number, faulty, path);
+    }
+    let (first, last) = match rng.below(4) {
+        0 | 1 => (range.first, range.last),
+        2 => (range.first, near(rng, range, AS)),
+        _ => (near(rng, range, AS), near(rng, range, AS)),
+    };
+    let (first, last) = if faulty && rng.once_in(3) {
+        (last, first)
+    } else {
+        (first.min(last), first.max(last))
+    };
+    let first_faulty = faulty && rng.once_in(4);
+    decimal(rng, first, first_faulty, path);
+    match rng.below(12) {
+        0 => path.extend(b"%2D"),
+        1 => path.extend(b"%2d"),
+        2 if faulty => path.extend(rng.word(" -- / %2F + -1-")),
+        _ => path.push(b'-'),
+    }
+    let last_faulty = faulty && rng.once_in(4);
+    decimal(rng, last, last_faulty, path);
+}
+
+fn host_segment(rng: &mut Rng, mut name: Vec<u8>, faulty: bool, path: &mut Vec<u8>) {
+    if rng.once_in(3) {
+        fold_some(rng, &mut name);
+    }
+    if rng.once_in(4) {
+        name.push(b'.');
+    }
+    if faulty {
+        match rng.below(3) {
+            0 => damage_host(rng, &mut name),
+            1 => spoil_text(rng, &mut name),
+            _ => name.push(b'.'),
+        }
+    }
+    escaped(rng, &name, path);
+}
+
+/// Changes the case of some letters.
+fn fold_some(rng: &mut Rng, text: &mut [u8]) {
+    for byte in text {
+        if byte.is_ascii_alphabetic() && rng.once_in(2) {
+            *byte ^= 0x20;
+        }
+    }
+}
+
+fn spoil_text(rng: &mut Rng, text: &mut Vec<u8>) {
+    let at = rng.below(text.len() + 1);
+    match rng.below(8) {
+        0 => text.clear(),
+        1 => text.truncate(at),
+        2 => {
+            let length = *rng.pick(&[63, 64, 65, 65, 252, 253, 254, 254, 257]);
+            text.resize(length, b'a');
+        }
+        3 => text.insert(at, b'*'),
+        4 => text.push(b'*'),
+        5 => text.insert(at, *rng.pick(b"\x00\x1F\x20\x7F%/?&=#+.-")),
+        6 => fold_some(rng, text),
+        _ => text.push(*rng.pick(b"ab01~ .")),
+    }
+}
+
+/// A search with a pattern that matches something, unless it is spoilt.
+fn search(rng: &mut Rng, aims: &Aims, faulty: bool, path: &mut Vec<u8>) {
+    let searches: [(&[u8], &[u8], &[u8]); 8] = [
+        (b"/domains?", b"name", &[DOMAIN]),
+        (b"/nameservers?", b"name", &[NAMESERVER]),
+        (b"/entities?", b"fn", &[ENTITY]),
+        (b"/entities?", b"handle", &[ENTITY]),
+        (b"/ips?", b"handle", &[IPV4, IPV6]),
+        (b"/ips?", b"name", &[IPV4, IPV6]),
+        (b"/autnums?", b"handle", &[AS]),
+        (b"/autnums?", b"name", &[AS]),
+    ];
+    let &(start, parameter, tags) = rng.pick(&searches);
+    let is_host = tags == [DOMAIN] || tags == [NAMESERVER];
+    let mut pattern = if parameter == b"handle" {
+        aims.handle(rng, tags)
+    } else if is_host {
+        aims.host(rng, tags[0])
+    } else {
+        aims.name(rng, tags)
+    };
+    if parameter != b"handle" && rng.once_in(3) {
+        fold_some(rng, &mut pattern);
+    }
+    let length = pattern.len();
+    match rng.below(6) {
+        0 => {}
+        1..=3 => {
+            let kept = rng.below(length + 1).min(253);
+            pattern.truncate(kept);
+            if kept < 64 || is_host {
+                pattern.push(b'*');
+            }
+        }
+        _ if is_host && pattern.contains(&b'.') => {
+            // an asterisk for the end of a label, or for more than one
+            let dots: Vec<usize> = (0..length).filter(|&at| pattern[at] == b'.').collect();
+            let dot = *rng.pick(&dots);
+            let kept = rng.below(dot + 1);
+            pattern.drain(kept..dot);
+            pattern.insert(kept, b'*');
+        }
+        _ => pattern = b"*".to_vec(),
+    }
+    if faulty && rng.once_in(2) {
+        spoil_text(rng, &mut pattern);
+    } else if faulty {
+        let at = rng.below(pattern.len() + 1);
+        if rng.once_in(2) {
+            pattern.truncate(at);
+        }
+        insert(&mut pattern, at, rng.word("* ** *. *.a *a .*"));
+    }
+    path.extend(start);
+    if rng.once_in(8) {
+        path.extend(rng.word("x=y& name& handle& nsIp& ip& status=a& =& & Name=a& nam%65=a&"));
+    }
+    path.extend(parameter);
+    path.push(b'=');
+    escaped(rng, &pattern, path);
+    if rng.once_in(8) {
+        path.extend(rng.word("& &x &x=y &name &ip &x=a=b &%41=1"));
+    }
+    if faulty && rng.once_in(3) {
+        path.extend(rng.word(
+            "&name=a &handle=a &fn=a &nsLdhName=a &nsIp=1 &ip=1 &ip= &status=x \
+                &x=%80 =",
+        ));
+    }
+}
+
+/// Writes a text with escapes where they are needed, and a few more.
+fn escaped(rng: &mut Rng, text: &[u8], path: &mut Vec<u8>) {
+    let more = if rng.once_in(6) { rng.between(2, 8) } else { 0 };
+    for &byte in text {
+        let needed =
+            !(byte.is_ascii_alphanumeric() || b"-._~!$'()*+,;=:@".contains(&byte)) || byte == b'%';
+        if needed || (more > 0 && rng.once_in(more)) {
+            let digits = if rng.once_in(2) {
+                format!("%{byte:02X}")
+            } else {
+                format!("%{byte:02x}")
+            };
+            path.extend(digits.into_bytes());
+        } else {
+            path.push(byte);
+        }
+    }
+}
+
+fn spoil_bytes(rng: &mut Rng, path: &mut Vec<u8>) {
+    let at = rng.below(path.len() + 1);
+    let inside = at.min(path.len().saturating_sub(1));
+    match rng.below(9) {
+        0 => path.insert(at, rng.word64() as u8),
+        1 => path[inside] = rng.word64() as u8,
+        2 => {
+            path.remove(inside);
+        }
+        3 => path.truncate(at),
+        4 => path.insert(at, *rng.pick(b"\"#<>[\\]^`{|} \x7F\x80\xFF/?%*&=")),
+        5 => {
+            insert(
+                path,
+                at,
+                rng.word(
+                    "%80 %FF %ff %C3%A9 %7F %00 %25 %2580 %2A %2a %2F %3F % %4 %4g %%41 \
+                    %G0",
+                ),
+            );
+        }
+        6 => path[inside] ^= 0x20,
+        7 => path[inside] ^= 1 << rng.below(8),
+        _ => {
+            let copy = path[at..].to_vec();
+            path.extend(copy);
+        }
+    }
+}
+
+/// Changes segments or parameters.
+fn spoil_structure(rng: &mut Rng, path: &mut Vec<u8>) {
+    let (before, after) = match path.iter().position(|&byte| byte == b'?') {
+        Some(at) => (path[..at].to_vec(), path[at..].to_vec()),
+        None => (path.clone(), Vec::new()),
+    };
+    let mut segments: Vec<Vec<u8>> = before
+        .split(|&byte| byte == b'/')
+        .map(<[u8]>::to_vec)
+        .collect();
+    let mut after = after;
+    let at = rng.below(segments.len());
+    match rng.below(12) {
+        0 => segments.push(vec![]),
+        1 => segments.push(b"8".to_vec()),
+        2 => {
+            segments.remove(at);
+        }
+        3 => segments.insert(at, vec![]),
+        4 => segments[at].make_ascii_uppercase(),
+        5 => {
+            let copy = segments[at].clone();
+            segments.insert(at, copy);
+        }
+        6 => {
+            segments[at] = rng
+                .word(
+                    " ip ips autnum autnums domain domains nameserver \
+                nameservers entity entities help rirSearch1 rirSearch2 up down top bottom Up \
+                %75p %69p",
+                )
+                .to_vec()
+        }
+        7 => {
+            let other = rng.below(segments.len());
+            segments.swap(at, other);
+        }
+        8 => segments.truncate(at),
+        9 => after.clear(),
+        _ => {
+            after.push(if after.is_empty() { b'?' } else { b'&' });
+            after.extend(rng.word(
+                "status=active status= status Status=a statu%73=a \
+                nsLdhName=a nsIp=1 nsIp ip=1 ip name=a name handle=b fn=c x=%ff",
+            ));
+        }
+    }
+    *path = segments.join(&b'/');
+    path.extend(after);
+}

@@ -1,0 +1,145 @@
+//! What is compared with the model and measured: with the feature `ffi` the
+//! library behind the C interface, else the implementation in `fast`.
+
+use crate::Relation;
+
+#[cfg(feature = "ffi")]
+mod calls {
+    use super::*;
+
+    pub const NAME: &str = "library";
+
+    extern "C" {
+        fn rdap_answer(
+            path: *const u8,
+            path_len: usize,
+            image: *const u8,
+            image_len: usize,
+            list: *mut u32,
+            list_len: usize,
+            reply: *mut u32,
+        );
+        fn rdap_up(
+            image: *const u8,
+            image_len: usize,
+            record: u32,
+            list: *mut u32,
+            list_len: usize,
+            reply: *mut u32,
+        );
+        fn rdap_down(
+            image: *const u8,
+            image_len: usize,
+            record: u32,
+            list: *mut u32,
+            list_len: usize,
+            reply: *mut u32,
+        );
+        fn rdap_top(
+            image: *const u8,
+            image_len: usize,
+            record: u32,
+            list: *mut u32,
+            list_len: usize,
+            reply: *mut u32,
+        );
+        fn rdap_bottom(
+            image: *const u8,
+            image_len: usize,
+            record: u32,
+            list: *mut u32,
+            list_len: usize,
+            reply: *mut u32,
+        );
+        fn rdap_handle(image: *const u8, image_len: usize, record: u32, part: *mut u32);
+        fn rdap_name(image: *const u8, image_len: usize, record: u32, part: *mut u32);
+    }
+
+    #[inline]
+    pub fn answer(path: &[u8], image: &[u8], list: &mut [u32], reply: &mut [u32; 7]) {
+        // The pointers and lengths are those of the slices.
+        unsafe {
+            rdap_answer(
+                path.as_ptr(),
+                path.len(),
+                image.as_ptr(),
+                image.len(),
+                list.as_mut_ptr(),
+                list.len(),
+                reply.as_mut_ptr(),
+            )
+        }
+    }
+
+    #[inline]
+    pub fn relation(
+        relation: Relation,
+        image: &[u8],
+        record: u32,
+        list: &mut [u32],
+        reply: &mut [u32; 7],
+    ) {
+        let call = match relation {
+            Relation::Up => rdap_up,
+            Relation::Down => rdap_down,
+            Relation::Top => rdap_top,
+            Relation::Bottom => rdap_bottom,
+        };
+        unsafe {
+            call(
+                image.as_ptr(),
+                image.len(),
+                record,
+                list.as_mut_ptr(),
+                list.len(),
+                reply.as_mut_ptr(),
+            )
+        }
+    }
+
+    #[inline]
+    pub fn handle(image: &[u8], record: u32, part: &mut [u32; 2]) {
+        unsafe { rdap_handle(image.as_ptr(), image.len(), record, part.as_mut_ptr()) }
+    }
+
+    #[inline]
+    pub fn name(image: &[u8], record: u32, part: &mut [u32; 2]) {
+        unsafe { rdap_name(image.as_ptr(), image.len(), record, part.as_mut_ptr()) }
+    }
+}
+
+#[cfg(not(feature = "ffi"))]
+mod calls {
+    use super::*;
+    use crate::fast;
+
+    pub const NAME: &str = "src/fast.rs";
+
+    #[inline]
+    pub fn answer(path: &[u8], image: &[u8], list: &mut [u32], reply: &mut [u32; 7]) {
+        *reply = fast::answer(path, image, list).numbers();
+    }
+
+    #[inline]
+    pub fn relation(
+        relation: Relation,
+        image: &[u8],
+        record: u32,
+        list: &mut [u32],
+        reply: &mut [u32; 7],
+    ) {
+        *reply = fast::relation(image, record, relation, list).numbers();
+    }
+
+    #[inline]
+    pub fn handle(image: &[u8], record: u32, part: &mut [u32; 2]) {
+        *part = fast::handle_part(image, record).into();
+    }
+
+    #[inline]
+    pub fn name(image: &[u8], record: u32, part: &mut [u32; 2]) {
+        *part = fast::name_part(image, record).into();
+    }
+}
+
+pub use calls::{answer, handle, name, relation, NAME};

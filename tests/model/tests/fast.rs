@@ -1,0 +1,127 @@
+//! The two implementations give the same on generated inputs.
+
+use model::generate::{self, Aims, Rng};
+use model::{fast, Reply, RELATIONS};
+
+const FILL: u32 = 0xA5A5_5A5A;
+
+/// Reply and list afterwards, for a list of so many places.
+fn with_list(places: usize, call: impl Fn(&mut [u32]) -> Reply) -> (Reply, Vec<u32>) {
+    let mut list = vec![FILL; places];
+    let reply = call(&mut list);
+    (reply, list)
+}
+
+#[test]
+fn same_answers() {
+    let mut rng = Rng::new(2);
+    let mut calls = 0;
+    let mut reasons = [0; 10];
+    while calls < 100_000 {
+        let image = generate::sound(&mut rng);
+        let checked = model::check(&image);
+        assert!(checked.is_ok(), "{}", image.escape_ascii());
+        let aims = Aims::new(&image, &checked);
+        for _ in 0..60 {
+            let path = generate::path(&mut rng, &aims);
+            let record = generate::record(&mut rng, &aims);
+            let (full, _) = with_list(4096, |list| {
+                model::answer_checked(&path, &image, &checked, list)
+            });
+            reasons[full.reason as usize] += 1;
+            let places = generate::places(&mut rng, full.count as usize);
+            assert_eq!(
+                with_list(places, |list| fast::answer(&path, &image, list)),
+                with_list(places, |list| model::answer_checked(
+                    &path, &image, &checked, list
+                )),
+                "{} on {}",
+                path.escape_ascii(),
+                image.escape_ascii()
+            );
+            for relation in RELATIONS {
+                let places = generate::places(&mut rng, 2);
+                assert_eq!(
+                    with_list(places, |list| fast::relation(
+                        &image, record, relation, list
+                    )),
+                    with_list(places, |list| model::relation_checked(
+                        &checked, record, relation, list
+                    )),
+                    "{relation:?} of {record} on {}",
+                    image.escape_ascii()
+                );
+            }
+            assert_eq!(
+                fast::handle_part(&image, record),
+                model::handle_part(&checked, record)
+            );
+            assert_eq!(
+                fast::name_part(&image, record),
+                model::name_part(&checked, record)
+            );
+            calls += 7;
+        }
+    }
+    println!("{calls} calls, replies by reason from 0: {reasons:?}");
+    // Every reason but 2 occurs.
+    for reason in [0, 1, 3, 4, 5, 6, 7, 8] {
+        assert!(reasons[reason] > 0, "reason {reason} did not occur");
+    }
+}
+
+#[test]
+fn same_defects() {
+    let mut rng = Rng::new(3);
+    let mut defects = [0; 8];
+    for number in 0..20_000 {
+        let image = match number {
+            0..generate::LIMITS => generate::limit(&mut rng, number),
+            _ => generate::damaged(&mut rng),
+        };
+        let expected = model::check(&image).err();
+        assert_eq!(
+            fast::check(&image).err(),
+            expected,
+            "{}",
+            image.escape_ascii()
+        );
+        defects[expected.map_or(0, |found| found.defect) as usize] += 1;
+        if expected.is_some() {
+            assert!(fast::handle(&image, 0).is_empty());
+            assert!(fast::name(&image, 0).is_empty());
+        }
+    }
+    println!("images by defect from 0: {defects:?}");
+    assert!(defects.iter().all(|&images| images > 0), "{defects:?}");
+}
+
+/// Many blocks of one family.
+#[test]
+fn same_on_large_images() {
+    let mut rng = Rng::new(4);
+    for _ in 0..6 {
+        let image = generate::many_blocks(&mut rng);
+        let checked = model::check(&image);
+        assert!(checked.is_ok());
+        let aims = Aims::new(&image, &checked);
+        for _ in 0..4 {
+            let path = generate::path(&mut rng, &aims);
+            assert_eq!(
+                with_list(4096, |list| fast::answer(&path, &image, list)),
+                with_list(4096, |list| model::answer_checked(
+                    &path, &image, &checked, list
+                )),
+            );
+        }
+        let record = generate::record(&mut rng, &aims);
+        for relation in RELATIONS {
+            assert_eq!(
+                with_list(4096, |list| fast::relation(&image, record, relation, list)),
+                with_list(4096, |list| model::relation_checked(
+                    &checked, record, relation, list
+                )),
+            );
+        }
+    }
+}

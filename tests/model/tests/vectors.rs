@@ -1,0 +1,300 @@
+//! Runs the vectors on both implementations. The folder is given by the
+//! variable VECTORS, else it is `../vectors` beside this package.
+
+use model::{Relation, Reply};
+use std::fs;
+use std::path::PathBuf;
+
+const PLACES: usize = 4096;
+const FILL: u32 = 0xA5A5_5A5A;
+
+/// The public functions of one implementation.
+struct Calls {
+    name: &'static str,
+    answer: fn(&[u8], &[u8], &mut [u32]) -> Reply,
+    relation: fn(&[u8], u32, Relation, &mut [u32]) -> Reply,
+    handle: fn(&[u8], u32) -> &[u8],
+    name_of: fn(&[u8], u32) -> &[u8],
+    defect: fn(&[u8]) -> (u32, u32),
+}
+
+const BOTH: [Calls; 2] = [
+    Calls {
+        name: "plain",
+        answer: model::answer,
+        relation: model::relation,
+        handle: model::handle,
+        name_of: model::name,
+        defect: |image| match model::check(image) {
+            Ok(_) => (0, 0),
+            Err(found) => (found.defect, found.place),
+        },
+    },
+    Calls {
+        name: "fast",
+        answer: model::fast::answer,
+        relation: model::fast::relation,
+        handle: model::fast::handle,
+        name_of: model::fast::name,
+        defect: |image| match model::fast::check(image) {
+            Ok(_) => (0, 0),
+            Err(found) => (found.defect, found.place),
+        },
+    },
+];
+
+fn file(name: &str) -> Vec<u8> {
+    let folder = std::env::var_os("VECTORS")
+        .map(PathBuf::from)
+        .unwrap_or_else(|| PathBuf::from(env!("CARGO_MANIFEST_DIR")).join("../vectors"));
+    let path = folder.join(name);
+    fs::read(&path).unwrap_or_else(|error| panic!("{}: {error}", path.display()))
+}
+
+/// Lines are bytes, each ended by a line feed; the last one may lack it.
+fn lines(bytes: &[u8]) -> Vec<&[u8]> {
+    let mut lines: Vec<&[u8]> = bytes.split(|&byte| byte == b'\n').collect();
+    if lines.last() == Some(&&b""[..]) {
+        lines.pop();
+    }
+    lines
+}
+
+/// The lines of a table, cut at tabs, without those that start with `#`.
+fn rows(bytes: &[u8]) -> Vec<Vec<&[u8]>> {
+    lines(bytes)
+        .into_iter()
+        .filter(|line| !line.starts_with(b"#"))
+        .map(|line| line.split(|&byte| byte == b'\t').collect())
+        .collect()
+}
+
+fn number(text: &[u8]) -> usize {
+    std::str::from_utf8(text).unwrap().parse().unwrap()
+}
+
+/// "each output line is status, reason, kind, count and the record numbers"
+fn line(reply: Reply, list: &[u32]) -> Vec<u8> {
+    let mut line = format!(
+        "{} {} {} {}",
+        reply.status, reply.reason, reply.kind, reply.count
+    );
+    // The record numbers stand there only if the call wrote them.
+    let written = if reply.reason == 0 { reply.count } else { 0 };
+    for number in &list[..written as usize] {
+        line.push_str(&format!(" {number}"));
+    }
+    assert!(
+        list[written as usize..].iter().all(|&place| place == FILL),
+        "a place past the answer was written"
+    );
+    line.into_bytes()
+}
+
+/// Compares row after row, prints how many agree, and fails if one does not.
+struct Tally {
+    title: String,
+    rows: usize,
+    wrong: usize,
+}
+
+impl Tally {
+    fn new(title: String) -> Tally {
+        Tally {
+            title,
+            rows: 0,
+            wrong: 0,
+        }
+    }
+
+    fn row(&mut self, asked: &[u8], expected: &[u8], got: &[u8]) {
+        self.rows += 1;
+        if expected != got {
+            self.wrong += 1;
+            println!(
+                "{}: {}: expected {}, got {}",
+                self.title,
+                asked.escape_ascii(),
+                expected.escape_ascii(),
+                got.escape_ascii()
+            );
+        }
+    }
+
+    fn close(self) {
+        println!(
+            "{}: {} rows, {} agree",
+            self.title,
+            self.rows,
+            self.rows - self.wrong
+        );
+        assert!(self.rows > 0 && self.wrong == 0, "{}", self.title);
+    }
+}
+
+fn run_paths(name: &str) {
+    let image = file(&format!("{name}.image"));
+    let paths = file(&format!("{name}.paths"));
+    let expected = file(&format!("{name}.expected"));
+    let (paths, expected) = (lines(&paths), lines(&expected));
+    assert_eq!(paths.len(), expected.len());
+    for calls in &BOTH {
+        let mut tally = Tally::new(format!("{name} ({})", calls.name));
+        for (path, expected) in paths.iter().zip(&expected) {
+            let mut list = [FILL; PLACES];
+            let reply = (calls.answer)(path, &image, &mut list);
+            tally.row(path, expected, &line(reply, &list));
+        }
+        tally.close();
+    }
+}
+
+#[test]
+fn s() {
+    run_paths("s");
+}
+
+#[test]
+fn small() {
+    run_paths("small");
+}
+
+#[test]
+fn campus() {
+    run_paths("campus");
+}
+
+#[test]
+fn empty() {
+    run_paths("empty");
+}
+
+#[test]
+fn defective() {
+    run_paths("defective");
+}
+
+#[test]
+fn random() {
+    for name in ["random1", "random2", "random3"] {
+        run_paths(name);
+    }
+}
+
+#[test]
+fn rooms() {
+    let image = file("campus.image");
+    let table = file("rooms.tsv");
+    for calls in &BOTH {
+        let mut tally = Tally::new(format!("rooms.tsv ({})", calls.name));
+        for row in rows(&table) {
+            let mut list = vec![FILL; number(row[1])];
+            let reply = (calls.answer)(row[0], &image, &mut list);
+            tally.row(row[0], row[2], &line(reply, &list));
+        }
+        tally.close();
+    }
+}
+
+#[test]
+fn relations() {
+    let image = file("campus.image");
+    let table = file("relations.tsv");
+    for calls in &BOTH {
+        let mut tally = Tally::new(format!("relations.tsv ({})", calls.name));
+        for row in rows(&table) {
+            let relation = match row[1] {
+                b"up" => Relation::Up,
+                b"down" => Relation::Down,
+                b"top" => Relation::Top,
+                b"bottom" => Relation::Bottom,
+                other => panic!("no relation: {}", other.escape_ascii()),
+            };
+            let mut list = vec![FILL; number(row[2])];
+            let record = number(row[0]) as u32;
+            let reply = (calls.relation)(&image, record, relation, &mut list);
+            assert_eq!(reply.relation, relation as u32);
+            tally.row(&row[..3].join(&b' '), row[3], &line(reply, &list));
+        }
+        tally.close();
+    }
+}
+
+#[test]
+fn defects() {
+    let table = file("defects.tsv");
+    for calls in &BOTH {
+        let mut tally = Tally::new(format!("defects.tsv ({})", calls.name));
+        for row in rows(&table) {
+            let image: Vec<u8> = row[0]
+                .chunks(2)
+                .map(|pair| u8::from_str_radix(std::str::from_utf8(pair).unwrap(), 16).unwrap())
+                .collect();
+            let (defect, place) = (calls.defect)(&image);
+            let expected = [row[1], row[2]].join(&b' ');
+            tally.row(row[0], &expected, format!("{defect} {place}").as_bytes());
+
+            // The calls say the same, and a defective image has no parts.
+            let reply = (calls.answer)(b"/help", &image, &mut []);
+            assert_eq!((reply.defect, reply.place), (defect, place));
+            assert_eq!(reply.reason, if defect == 0 { 0 } else { 2 });
+            let reply = (calls.relation)(&image, 0, Relation::Up, &mut []);
+            assert_eq!((reply.defect, reply.place), (defect, place));
+            if defect != 0 {
+                assert!((calls.handle)(&image, 0).is_empty());
+                assert!((calls.name_of)(&image, 0).is_empty());
+            }
+        }
+        tally.close();
+    }
+}
+
+/// "A whole image, 30 bytes, one AS block 12 to 15, handle A, name B, active"
+#[test]
+fn whole_image() {
+    let image = [
+        0x01, 0x00, 0x01, 0x01, 0x12, 0x00, 0x17, 0x20, 0x00, 0x08, 0x00, 0x00, 0x00, 0x0C, 0x00,
+        0x00, 0x00, 0x0F, 0x21, 0x00, 0x01, 0x41, 0x22, 0x00, 0x01, 0x42, 0x23, 0x00, 0x01, 0x01,
+    ];
+    for calls in &BOTH {
+        let mut list = [FILL; 2];
+        let reply = (calls.answer)(b"/autnum/12", &image, &mut list);
+        assert_eq!(reply.numbers(), [200, 0, 2, 0, 1, 0, 0]);
+        assert_eq!(list, [0, FILL]);
+        // "as a part of the image itself"
+        let handle = (calls.handle)(&image, 0);
+        assert_eq!(handle, b"A");
+        assert_eq!(handle.as_ptr(), image[21..].as_ptr());
+        let name = (calls.name_of)(&image, 0);
+        assert_eq!(name, b"B");
+        assert_eq!(name.as_ptr(), image[25..].as_ptr());
+        assert!((calls.handle)(&image, 1).is_empty());
+        assert!((calls.name_of)(&image, u32::MAX).is_empty());
+    }
+}
+
+/// The cases of document 01 that stand below the table.
+#[test]
+fn cases() {
+    let image = file("s.image");
+    let long = |length: usize| [b"/help?", vec![b'a'; length - 6].as_slice()].concat();
+    let cases: Vec<(Vec<u8>, u32)> = vec![
+        (b"".to_vec(), 3),
+        (b"/".to_vec(), 4),
+        (b"/ip/192.0.2.0/".to_vec(), 6),
+        (b"/ip/192.0.2.1/24".to_vec(), 6),
+        (b"/ip/01.2.3.4".to_vec(), 6),
+        (b"/ip/1:2:3:4:5:6:7::".to_vec(), 8),
+        (b"/ip/1:2:3:4:5:6:7:8::".to_vec(), 6),
+        (b"/autnum/4294967295".to_vec(), 8),
+        (b"/autnum/4294967296".to_vec(), 6),
+        (long(1024), 0),
+        (long(1025), 1),
+    ];
+    for calls in &BOTH {
+        for (path, reason) in &cases {
+            let reply = (calls.answer)(path, &image, &mut []);
+            assert_eq!(reply.reason, *reason, "{}", path.escape_ascii());
+        }
+    }
+}
