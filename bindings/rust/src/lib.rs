@@ -1,0 +1,148 @@
+//! RDAP answers from a registry image, over the archive of include/rdap.h.
+//!
+//! Calls are pure: no state, any input, no panic; a refusal is an error that carries its numbers.
+use std::fmt;
+
+/// An image has at most so many records, so a list of so many places is never too short.
+pub const RECORDS: usize = 4096;
+
+#[derive(Clone, Copy, Debug, PartialEq, Eq)]
+pub enum Relation {
+    Up,
+    Down,
+    Top,
+    Bottom,
+}
+
+/// What a path asked for; a relation query also names which of the four it is.
+#[derive(Clone, Copy, Debug, PartialEq, Eq)]
+pub enum Kind {
+    Ip,
+    Autnum,
+    Domain,
+    Nameserver,
+    Entity,
+    Help,
+    Search,
+    Relation(Relation),
+}
+
+/// The record numbers that answer, ascending.
+#[derive(Clone, Debug, PartialEq, Eq)]
+pub struct Answer {
+    pub kind: Kind,
+    pub records: Vec<u32>,
+}
+
+/// A refusal. `count` is the number of places needed under reason 9;
+/// `defect` and `place` say how the image is defective under reason 2.
+#[derive(Clone, Copy, Debug, PartialEq, Eq)]
+pub struct Refusal {
+    pub status: u32,
+    pub reason: u32,
+    pub kind: Option<Kind>,
+    pub count: u32,
+    pub defect: u32,
+    pub place: u32,
+}
+
+impl fmt::Display for Refusal {
+    fn fmt(&self, f: &mut fmt::Formatter) -> fmt::Result {
+        write!(f, "status {}, reason {}", self.status, self.reason)
+    }
+}
+
+impl std::error::Error for Refusal {}
+
+type Ask = unsafe extern "C" fn(*const u8, usize, u32, *mut u32, usize, *mut [u32; 7]);
+
+extern "C" {
+    fn rdap_answer(path: *const u8, path_len: usize, image: *const u8, image_len: usize, list: *mut u32, list_len: usize, reply: *mut [u32; 7]);
+    fn rdap_up(image: *const u8, image_len: usize, record: u32, list: *mut u32, list_len: usize, reply: *mut [u32; 7]);
+    fn rdap_down(image: *const u8, image_len: usize, record: u32, list: *mut u32, list_len: usize, reply: *mut [u32; 7]);
+    fn rdap_top(image: *const u8, image_len: usize, record: u32, list: *mut u32, list_len: usize, reply: *mut [u32; 7]);
+    fn rdap_bottom(image: *const u8, image_len: usize, record: u32, list: *mut u32, list_len: usize, reply: *mut [u32; 7]);
+    fn rdap_handle(image: *const u8, image_len: usize, record: u32, part: *mut [u32; 2]);
+    fn rdap_name(image: *const u8, image_len: usize, record: u32, part: *mut [u32; 2]);
+}
+
+fn kind(reply: &[u32; 7]) -> Option<Kind> {
+    Some(match (reply[2], reply[3]) {
+        (1, _) => Kind::Ip,
+        (2, _) => Kind::Autnum,
+        (3, _) => Kind::Domain,
+        (4, _) => Kind::Nameserver,
+        (5, _) => Kind::Entity,
+        (6, _) => Kind::Help,
+        (7, _) => Kind::Search,
+        (8, 1) => Kind::Relation(Relation::Up),
+        (8, 2) => Kind::Relation(Relation::Down),
+        (8, 3) => Kind::Relation(Relation::Top),
+        (8, 4) => Kind::Relation(Relation::Bottom),
+        _ => return None,
+    })
+}
+
+/// The kind and the count of an answered reply, or its refusal.
+fn outcome(reply: &[u32; 7]) -> Result<(Kind, usize), Refusal> {
+    match (reply[1], kind(reply)) {
+        (0, Some(kind)) => Ok((kind, reply[4] as usize)),
+        (_, kind) => Err(Refusal { status: reply[0], reason: reply[1], kind, count: reply[4], defect: reply[5], place: reply[6] }),
+    }
+}
+
+fn listed(ask: impl FnOnce(&mut [u32]) -> Result<(Kind, usize), Refusal>) -> Result<Answer, Refusal> {
+    let mut list = [0; RECORDS];
+    let (kind, count) = ask(&mut list)?;
+    Ok(Answer { kind, records: list[..count].to_vec() })
+}
+
+/// Answers a path with its query; the record numbers go to the first places of the list, the rest is unchanged.
+pub fn answer_into(path: &[u8], image: &[u8], list: &mut [u32]) -> Result<(Kind, usize), Refusal> {
+    let mut reply = [0; 7];
+    // The slices are valid for their lengths, distinct where one is written, and the reply has seven places.
+    unsafe { rdap_answer(path.as_ptr(), path.len(), image.as_ptr(), image.len(), list.as_mut_ptr(), list.len(), &mut reply) };
+    outcome(&reply)
+}
+
+/// Answers a path with its query.
+pub fn answer(path: &[u8], image: &[u8]) -> Result<Answer, Refusal> {
+    listed(|list| answer_into(path, image, list))
+}
+
+/// Asks a relation of a record number, as a relation path would for that block's range.
+pub fn relation_into(image: &[u8], record: u32, relation: Relation, list: &mut [u32]) -> Result<(Kind, usize), Refusal> {
+    let ask: Ask = match relation {
+        Relation::Up => rdap_up,
+        Relation::Down => rdap_down,
+        Relation::Top => rdap_top,
+        Relation::Bottom => rdap_bottom,
+    };
+    let mut reply = [0; 7];
+    // As above.
+    unsafe { ask(image.as_ptr(), image.len(), record, list.as_mut_ptr(), list.len(), &mut reply) };
+    outcome(&reply)
+}
+
+/// Asks a relation of a record number.
+pub fn relation(image: &[u8], record: u32, relation: Relation) -> Result<Answer, Refusal> {
+    listed(|list| relation_into(image, record, relation, list))
+}
+
+fn part(image: &[u8], part: [u32; 2]) -> &[u8] {
+    &image[part[0] as usize..][..part[1] as usize]
+}
+
+/// The handle of a record, as a part of the image; empty if the image is defective or there is no such record.
+pub fn handle(image: &[u8], record: u32) -> &[u8] {
+    let mut span = [0; 2];
+    unsafe { rdap_handle(image.as_ptr(), image.len(), record, &mut span) };
+    part(image, span)
+}
+
+/// The name of a record, alike.
+pub fn name(image: &[u8], record: u32) -> &[u8] {
+    let mut span = [0; 2];
+    unsafe { rdap_name(image.as_ptr(), image.len(), record, &mut span) };
+    part(image, span)
+}
