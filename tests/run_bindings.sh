@@ -6,18 +6,7 @@ cd "$(dirname "$0")/.."
 archive=$PWD/target/staticlib/librdap_c.a
 [ -e "$archive" ] || "${RT:-rt}" staticlib rdap_c || exit 1
 mkdir -p target/c
-passed=0
-failed=0
-
-# told NAME STATUS: counts a suite
-told() {
-    if [ "$2" -eq 0 ]; then
-        passed=$((passed + 1))
-    else
-        failed=$((failed + 1))
-        echo "FAILED: $1"
-    fi
-}
+. tests/tally.sh
 
 gcc -shared -o target/c/librdap.so -Wl,--whole-archive "$archive" -Wl,--no-whole-archive -Wl,-z,text
 told "the shared library" $?
@@ -25,5 +14,4 @@ RDAP_SO=$PWD/target/c/librdap.so PYTHONDONTWRITEBYTECODE=1 python3 -m unittest d
 told "Python" $?
 (cd bindings/rust && RDAP_LIB=$archive CARGO_TARGET_DIR=$OLDPWD/target/rust cargo test --offline --quiet)
 told "Rust" $?
-echo "$passed passed, $failed failed"
-[ "$failed" -eq 0 ]
+tally

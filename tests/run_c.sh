@@ -7,18 +7,7 @@ archive=target/staticlib/librdap_c.a
 [ -e "$archive" ] || "${RT:-rt}" staticlib rdap_c || exit 1
 out=target/c
 mkdir -p "$out"
-passed=0
-failed=0
-
-# told NAME STATUS: counts a case
-told() {
-    if [ "$2" -eq 0 ]; then
-        passed=$((passed + 1))
-    else
-        failed=$((failed + 1))
-        echo "FAILED: $1"
-    fi
-}
+. tests/tally.sh
 
 # answers PATH EXPECTED STATUS: what the example writes and its exit status
 answers() {
@@ -53,5 +42,4 @@ told "tests/calls.c" $?
 gcc -shared -o "$out/librdap.so" -Wl,--whole-archive "$archive" -Wl,--no-whole-archive -Wl,-z,text
 told "the shared library" $?
 
-echo "$passed passed, $failed failed"
-[ "$failed" -eq 0 ]
+tally
