@@ -47,8 +47,22 @@ fn text_ends(s: &[u8], low: u8, n: usize) -> bool
     first & last
 }
 
-// Whether s is a handle: 1 to 64 bytes from 21 to 7E, with no asterisk. It is not one function with the next, given the lowest byte,
-// so that each is called from one place and is made a part of its caller.
+// Whether s has 1 to 64 bytes from low to 7E, with no asterisk.
+pub fn text_ok(s: &[u8], low: u8) -> bool
+    ensures { λ r. ⌜ r ≡ goodText low (now (s .entry)) ⌝ }
+{
+    let n = s.len();
+    if n < 1 {
+        return false;
+    }
+    if 64 < n {
+        return false;
+    }
+    text_run(s, low, 0, n)
+}
+
+// The same for the check of an image, as fast as can be: whether s is a handle. It is not one function with the next, given the lowest
+// byte, so that each is called from one place and is made a part of its caller.
 pub fn handle_ok(s: &[u8]) -> bool
     ensures { λ r. ⌜ r ≡ goodText 0x21 (now (s .entry)) ⌝ }
 {
@@ -74,7 +88,7 @@ pub fn handle_ok(s: &[u8]) -> bool
     text_ends(s, 0x21, 32)
 }
 
-// Whether s is a name: 1 to 64 bytes from 20 to 7E, with no asterisk.
+// Whether s is a name.
 pub fn name_ok(s: &[u8]) -> bool
     ensures { λ r. ⌜ r ≡ goodText 0x20 (now (s .entry)) ⌝ }
 {
