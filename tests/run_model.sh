@@ -1,5 +1,5 @@
 #!/usr/bin/env bash
-# The independent model: its own tests (the vectors among them), then every public function of the archive compared with it.
+# The independent model: its own tests; the vectors on the archive; then every public function of the archive compared with the model.
 # usage: tests/run_model.sh [OPTIONS OF compare], as in tests/run_model.sh --calls 2000000 --seconds 3600 --seed 2
 # The archive is target/staticlib/librdap_c.a and is built if it is missing. VECTORS names the folder of vectors, tests/vectors if unset.
 # Without options all is over within two minutes. The last line is 'N passed, M failed'.
@@ -18,6 +18,7 @@ cd tests/model
 status=0
 {
     timeout 110 cargo test --release --offline --quiet || status=1
+    timeout 110 cargo test --release --offline --quiet --features ffi --test vectors || status=1
     $limit cargo run --release --offline --quiet --features ffi --bin compare -- "$@" || status=1
 } >"$log" 2>&1
 cat "$log"

@@ -1,7 +1,8 @@
-//! Runs the vectors on both implementations. The folder is given by the
+//! Runs the vectors on the model and on what is compared with it: the library
+//! with the feature `ffi`, else `src/fast.rs`. The folder is given by the
 //! variable VECTORS, else it is `../vectors` beside this package.
 
-use model::{Relation, Reply};
+use model::{subject, Relation, Reply};
 use std::fs;
 use std::path::PathBuf;
 
@@ -31,17 +32,50 @@ const BOTH: [Calls; 2] = [
         },
     },
     Calls {
-        name: "fast",
-        answer: model::fast::answer,
-        relation: model::fast::relation,
-        handle: model::fast::handle,
-        name_of: model::fast::name,
-        defect: |image| match model::fast::check(image) {
-            Ok(_) => (0, 0),
-            Err(found) => (found.defect, found.place),
+        name: subject::NAME,
+        answer: |path, image, list| {
+            let mut reply = [0; 7];
+            subject::answer(path, image, list, &mut reply);
+            reply_of(reply)
+        },
+        relation: |image, record, relation, list| {
+            let mut reply = [0; 7];
+            subject::relation(relation, image, record, list, &mut reply);
+            reply_of(reply)
+        },
+        handle: |image, record| {
+            let mut part = [0; 2];
+            subject::handle(image, record, &mut part);
+            part_of(image, part)
+        },
+        name_of: |image, record| {
+            let mut part = [0; 2];
+            subject::name(image, record, &mut part);
+            part_of(image, part)
+        },
+        defect: |image| {
+            let mut reply = [0; 7];
+            subject::answer(b"/help", image, &mut [], &mut reply);
+            (reply[5], reply[6])
         },
     },
 ];
+
+fn reply_of([status, reason, kind, relation, count, defect, place]: [u32; 7]) -> Reply {
+    Reply {
+        status,
+        reason,
+        kind,
+        relation,
+        count,
+        defect,
+        place,
+    }
+}
+
+fn part_of(image: &[u8], [offset, length]: [u32; 2]) -> &[u8] {
+    &image[offset as usize..][..length as usize]
+}
 
 fn file(name: &str) -> Vec<u8> {
     let folder = std::env::var_os("VECTORS")

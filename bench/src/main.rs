@@ -1,12 +1,12 @@
-//! Nanoseconds a call, for src/fast.rs and (with the feature `ffi`) for the
-//! library beside it, in the same run and by turns; each figure is the least of
-//! many repetitions.
+//! Nanoseconds a call of the library beside those of the model's fast Rust, in
+//! the same run and by turns; each figure is the least of many repetitions.
 //!
-//!     bench [--shape NAME] [--kind TEXT] [--repetitions N] [--seconds T]
+//!     bench [--shape NAME] [--kind TEXT] [--repetitions N] [--seconds T] [--table]
 //!
 //! N repetitions (40) of every row, fewer if T seconds (100) are over before.
 //! Every call checks the image. The row `check` is the path `/help`, which does
 //! nothing else. Growth is the time for 4,096 records over that for 2,048.
+//! `--table` prints the figures for 4,096 records as a table of Markdown.
 
 use model::generate::Draft;
 use model::{fast, generate, subject, Range, Relation, AS, DOMAIN, ENTITY, IPV4, IPV6, NAMESERVER};
@@ -260,16 +260,18 @@ struct Cell<'a> {
 }
 
 impl Cell<'_> {
+    fn ratio(&self) -> f64 {
+        self.least.1 / self.least.0
+    }
+
     /// A batch each. They come by turns, and the batches of a cell are spread
     /// over the whole run, so that other load spoils no cell for good.
     fn measure(&mut self, list: &mut [u32]) {
         let (image, call) = (black_box(self.image), black_box(&self.call));
         let took = batch(self.least.0, || call.fast(image, list));
         self.least.0 = self.least.0.min(took);
-        if cfg!(feature = "ffi") {
-            let took = batch(self.least.1, || call.subject(image, list));
-            self.least.1 = self.least.1.min(took);
-        }
+        let took = batch(self.least.1, || call.subject(image, list));
+        self.least.1 = self.least.1.min(took);
     }
 }
 
@@ -284,106 +286,169 @@ fn batch(expected: f64, mut call: impl FnMut() -> u32) -> f64 {
     start.elapsed().as_nanos() as f64 / f64::from(times)
 }
 
-fn main() {
-    let mut shape = None;
-    let mut kind = None;
-    let mut repetitions = 40;
-    let mut seconds = 100;
-    let mut words = std::env::args().skip(1);
-    while let (Some(word), Some(value)) = (words.next(), words.next()) {
-        match word.as_str() {
-            "--shape" => shape = Some(value),
-            "--kind" => kind = Some(value),
-            "--repetitions" => repetitions = value.parse().expect("a number"),
-            "--seconds" => seconds = value.parse().expect("a number"),
-            _ => panic!("{word}: no such option"),
+/// What the words on the command line ask for.
+struct Options {
+    shape: Option<String>,
+    kind: Option<String>,
+    repetitions: u32,
+    seconds: u64,
+    table: bool,
+}
+
+impl Options {
+    fn read() -> Options {
+        let mut options = Options {
+            shape: None,
+            kind: None,
+            repetitions: 40,
+            seconds: 100,
+            table: false,
+        };
+        let mut words = std::env::args().skip(1);
+        while let Some(word) = words.next() {
+            let mut value = || {
+                words
+                    .next()
+                    .unwrap_or_else(|| panic!("{word}: a value is missing"))
+            };
+            match word.as_str() {
+                "--shape" => options.shape = Some(value()),
+                "--kind" => options.kind = Some(value()),
+                "--repetitions" => options.repetitions = value().parse().expect("a number"),
+                "--seconds" => options.seconds = value().parse().expect("a number"),
+                "--table" => options.table = true,
+                _ => panic!("{word}: no such option"),
+            }
+        }
+        options
+    }
+}
+
+/// The kinds of calls of a shape, and for each the sizes.
+type Rows<'a> = Vec<(String, Vec<Cell<'a>>)>;
+
+fn rows<'a>(images: &'a [Vec<u8>], kind: &Option<String>, list: &mut [u32]) -> Rows<'a> {
+    let mut rows: Rows = Vec::new();
+    for image in images {
+        for (at, (name, call)) in calls(image)
+            .into_iter()
+            .filter(|(name, _)| kind.as_ref().is_none_or(|kind| name.contains(kind)))
+            .enumerate()
+        {
+            let (fast, library) = (call.fast(image, list), call.subject(image, list));
+            assert_eq!(fast, library, "{name}");
+            if rows.len() == at {
+                rows.push((name, Vec::new()));
+            }
+            rows[at].1.push(Cell {
+                image,
+                call,
+                least: (f64::INFINITY, f64::INFINITY),
+            });
         }
     }
+    rows
+}
+
+fn print_rows(shape: &str, images: &[Vec<u8>], rows: &Rows) {
+    let bytes: Vec<usize> = images.iter().map(Vec::len).collect();
+    println!("{shape}: bytes {bytes:?}");
+    let wide: String = SIZES.iter().map(|size| format!("{size:>8}")).collect();
+    let narrow: String = SIZES.iter().map(|size| format!("{size:>7}")).collect();
+    println!(
+        "{:16}  fast {wide} growth  library {wide} growth  library/fast {narrow}",
+        "ns a call"
+    );
+    for (kind, cells) in rows {
+        let line = |column: fn(&Cell) -> f64| -> String {
+            let figures: String = cells
+                .iter()
+                .map(|cell| format!("{:>8.0}", column(cell)))
+                .collect();
+            format!("{figures} {:>6.2}", column(&cells[4]) / column(&cells[3]))
+        };
+        let ratios: String = cells
+            .iter()
+            .map(|cell| format!("{:>7.2}", cell.ratio()))
+            .collect();
+        let (fast, library) = (line(|cell| cell.least.0), line(|cell| cell.least.1));
+        println!("{kind:16}       {fast}          {library}               {ratios}");
+    }
+    println!();
+}
+
+fn print_table(shapes: &[(&str, Vec<Vec<u8>>)], tables: &[Rows]) {
+    let names: Vec<&str> = shapes.iter().map(|(name, _)| *name).collect();
+    println!("| row | {} |", names.join(" | "));
+    println!("|{}", "---|".repeat(names.len() + 1));
+    for (at, (kind, _)) in tables[0].iter().enumerate() {
+        print!("| {kind} |");
+        for rows in tables {
+            let [.., half, full] = &rows[at].1[..] else {
+                unreachable!()
+            };
+            let (fast, library) = full.least;
+            let (ratio, growth) = (full.ratio(), library / half.least.1);
+            print!(
+                " {:.1}, {:.1}, **{ratio:.2}**, {growth:.2} |",
+                library / 1e3,
+                fast / 1e3
+            );
+        }
+        println!();
+    }
+    println!();
+}
+
+fn main() {
+    let options = Options::read();
     let mut list = vec![0; model::MOST_RECORDS];
     let shapes: Vec<(&str, Vec<Vec<u8>>)> = SHAPES
         .into_iter()
-        .filter(|name| shape.as_ref().is_none_or(|shape| shape == name))
+        .filter(|name| options.shape.as_ref().is_none_or(|shape| shape == name))
         .map(|name| (name, SIZES.map(|size| image(name, size)).to_vec()))
         .collect();
-
-    // For each shape the kinds of calls, for each of these the sizes.
-    let mut tables: Vec<Vec<(String, Vec<Cell>)>> = Vec::new();
-    for (_, images) in &shapes {
-        let mut rows: Vec<(String, Vec<Cell>)> = Vec::new();
-        for image in images {
-            for (at, (name, call)) in calls(image)
-                .into_iter()
-                .filter(|(name, _)| kind.as_ref().is_none_or(|kind| name.contains(kind)))
-                .enumerate()
-            {
-                assert_eq!(
-                    call.fast(image, &mut list),
-                    call.subject(image, &mut list),
-                    "{name}"
-                );
-                if rows.len() == at {
-                    rows.push((name, Vec::new()));
-                }
-                rows[at].1.push(Cell {
-                    image,
-                    call,
-                    least: (f64::INFINITY, f64::INFINITY),
-                });
-            }
-        }
-        tables.push(rows);
-    }
+    let mut tables: Vec<Rows> = shapes
+        .iter()
+        .map(|(_, images)| rows(images, &options.kind, &mut list))
+        .collect();
     let start = Instant::now();
     let mut done = 0;
-    while done < repetitions && (done == 0 || start.elapsed().as_secs() < seconds) {
+    while done < options.repetitions && (done == 0 || start.elapsed().as_secs() < options.seconds) {
         done += 1;
-        for (_, cells) in tables.iter_mut().flatten() {
-            for cell in cells {
-                cell.measure(&mut list);
-            }
+        for cell in tables.iter_mut().flatten().flat_map(|(_, cells)| cells) {
+            cell.measure(&mut list);
         }
     }
-
-    let (mut worst_ratio, mut worst_growth) = (0.0f64, 0.0f64);
-    for ((name, images), rows) in shapes.iter().zip(&tables) {
-        let bytes: Vec<usize> = images.iter().map(Vec::len).collect();
-        println!("{name}: bytes {bytes:?}");
-        let sizes: String = SIZES.iter().map(|size| format!("{size:>8}")).collect();
-        print!("{:16}  fast {sizes} growth", "ns a call");
-        if cfg!(feature = "ffi") {
-            let short: String = SIZES.iter().map(|size| format!("{size:>7}")).collect();
-            print!("  library {sizes} growth  library/fast {short}");
+    if options.table {
+        print_table(&shapes, &tables);
+    } else {
+        for ((shape, images), rows) in shapes.iter().zip(&tables) {
+            print_rows(shape, images, rows);
         }
-        println!();
-        for (kind, cells) in rows {
-            let line = |column: fn(&Cell) -> f64| -> String {
-                let figures: String = cells
-                    .iter()
-                    .map(|cell| format!("{:>8.0}", column(cell)))
-                    .collect();
-                format!("{figures} {:>6.2}", column(&cells[4]) / column(&cells[3]))
-            };
-            print!("{kind:16}       {}", line(|cell| cell.least.0));
-            if cfg!(feature = "ffi") {
-                let ratios: Vec<f64> = cells
-                    .iter()
-                    .map(|cell| cell.least.1 / cell.least.0)
-                    .collect();
-                worst_ratio = ratios.iter().copied().fold(worst_ratio, f64::max);
-                worst_growth = worst_growth.max(cells[4].least.1 / cells[3].least.1);
-                let ratios: String = ratios.iter().map(|ratio| format!("{ratio:>7.2}")).collect();
-                let library = line(|cell| cell.least.1);
-                print!("          {library}               {ratios}");
-            } else {
-                worst_growth = worst_growth.max(cells[4].least.0 / cells[3].least.0);
-            }
-            println!();
-        }
-        println!();
     }
     println!("{done} repetitions");
-    if cfg!(feature = "ffi") {
-        println!("largest library/fast {worst_ratio:.2}");
-    }
-    println!("largest growth {worst_growth:.2}");
+    let full: Vec<&[Cell]> = tables
+        .iter()
+        .flatten()
+        .map(|(_, cells)| &cells[..])
+        .collect();
+    let most =
+        |figure: fn(&[Cell]) -> f64| full.iter().map(|cells| figure(cells)).fold(0.0, f64::max);
+    let at_most = |limit: f64| {
+        full.iter()
+            .filter(|cells| cells[4].ratio() <= limit)
+            .count()
+    };
+    println!(
+        "at 4,096 records: largest library/fast {:.2}, at most 1.5 in {} of {} cells",
+        most(|cells| cells[4].ratio()),
+        at_most(1.5),
+        full.len()
+    );
+    println!(
+        "at any size: largest library/fast {:.2}; largest growth {:.2}",
+        most(|cells| cells.iter().map(Cell::ratio).fold(0.0, f64::max)),
+        most(|cells| cells[4].least.1 / cells[3].least.1)
+    );
 }
