@@ -1,135 +1,80 @@
--- Gathering the blocks of a family: those found so far are the first ones, and the rest of the walk gives the rest of them.
-use Prim.Native.Nat.{ℕ, suc, _+_, _*_, _-_, _≤_, _<_}
-use mathlib.Core.Bool.{true}
+-- Gathering the blocks of a run: the k-th block of the family is record `from + k`.
+use Prim.Native.Nat.{ℕ, zero, suc, _+_, _≤_, _<_}
 use mathlib.Core.Path.{_≡_, refl, sym, ap, _∙_}
-use mathlib.Core.List.{List, [], _∷_}
+use mathlib.Core.List.{List, _∷_}
 use native.Mathlib.Omega.{arith}
 use native.Mathlib.Decide.{decLt}
-use native.Mathlib.Numerals.{add-one}
-use borrow.Author.Tests.{eq-eqb, ne-eqb}
-use lib.ListN.{length, drop, getD, set, length-set, length-drop}
+use native.Mathlib.Nat.{add-zero}
+use lib.ListN.{length, drop, getD, set, length-drop}
 use lib.Seq.{drop-cons, getD-set-same, getD-set-other}
-use Rattle.records.specs.Record.{isBlock, widthOf}
-use Rattle.image.specs.Image.{imageOf}
-use Rattle.image.specs.Place.{verdictOf}
-use Rattle.image.specs.Entries.{EntryAt}
-use Rattle.image.specs.declared.Entry.{Entry}
-use Rattle.image.specs.declared.Verdict.the-variants.{Sound}
+use Rattle.image.specs.declared.Run.{Run}
 use Rattle.blocks.specs.Blocks.{Block}
-use Rattle.scans.specs.Standing.{blocksIn, rangeIn}
-use Rattle.image.proofs.Soundness.{counted, few-records}
-use Rattle.scans.proofs.Accepting.{blocks-accepted, low-family}
-use Rattle.scans.proofs.Walks.{blocksLeft, left-all, left-none, left-next, range-fits}
-use Rattle.bottom.specs.Links.{absent, nth, Gathered, Numbered}
+use Rattle.scans.specs.Standing.{blocksIn, rangeIn, Asked}
+use Rattle.scans.proofs.Walks.{blocksLeft, run-start, run-end, within, comparable, next-left, asked-accepted, asked-few}
+use Rattle.bottom.specs.Links.{absent, nth, Reachable, Started, Gathered, Numbered}
 
-abbrev blockAt : List ℕ → ℕ → ℕ → ℕ → Block
-blockAt s family number start = record { number = number; range = rangeIn s start (widthOf family) }
+-- one more start, stored at n
+pub start-more : (places starts : List ℕ) (from n v : ℕ) → n < length starts → v ≡ getD places (from + n) 0 + 6
+    → ((k : ℕ) → k < n → getD starts k 0 ≡ getD places (from + k) 0 + 6)
+    → (k : ℕ) → k < n + 1 → getD (set starts n v) k 0 ≡ getD places (from + k) 0 + 6
+start-more places starts from n v h e inv k p = go (decLt k n)
+  where
+    go : Dec (k < n) → getD (set starts n v) k 0 ≡ getD places (from + k) 0 + 6
+    go (yes b) = let o : k ≡ n → ⊥ = λ z. omega arith in getD-set-other starts n k v 0 o ∙ inv k b
+    go (no b) = let z : k ≡ n = omega arith in rw z (getD-set-same starts n v 0 h ∙ e)
 
-pub record Gathering (s : List ℕ) (family : ℕ) (numbers starts : List ℕ) (n i : ℕ) : Type 0 where
-  pub numbers-full : length numbers ≡ 4096
-  pub starts-full : length starts ≡ 4096
-  pub below : n ≤ i
-  pub upto : n ≤ length (blocksIn s family)
-  pub here : (k : ℕ) → k < n → nth (blocksIn s family) k ≡ blockAt s family (getD numbers k 0) (getD starts k 0)
-  pub fits : (k : ℕ) → k < n → getD starts k 0 + 2 * widthOf family ≤ length s
-  pub rest : drop n (blocksIn s family) ≡ blocksLeft s family i
+module _ {s places : List ℕ} {blocks : Run} {first last : List ℕ} (q : Asked s places blocks first last) where
+  pub reachable : Reachable places blocks
+  reachable = record { forward = q .selected .run-of .forward; few = asked-few q; low = λ i h k. within q h k .1 }
 
-pub gather-start : (s : List ℕ) (family : ℕ) (numbers starts : List ℕ) → length numbers ≡ 4096 → length starts ≡ 4096 → Gathering s family numbers starts 0 0
-gather-start s family numbers starts e f =
-    record {
-      numbers-full = e;
-      starts-full = f;
-      below = omega arith;
-      upto = omega arith;
-      here = λ k h. absurd (omega arith);
-      fits = λ k h. absurd (omega arith);
-      rest = sym (left-all s family);
-    }
+  -- the block that is record `from + k`
+  found : ℕ → Block
+  found k = record { number = blocks .from + k; range = rangeIn s (getD places (blocks .from + k) 0 + 6) (length first) }
 
--- what is stored at n, and what was stored before it
-stored : (xs : List ℕ) (n v k : ℕ) → n < length xs → k ≡ n → getD (set xs n v) k 0 ≡ v
-stored xs n v k h e = rw e (getD-set-same xs n v 0 h)
+  -- after k blocks
+  abbrev Passed : ℕ → Type 0
+  Passed k = (k ≤ length (blocksIn s (blocks .first))) × (drop k (blocksIn s (blocks .first)) ≡ blocksLeft s (blocks .first) (blocks .from + k))
 
-kept : (xs : List ℕ) (n v k : ℕ) → k < n → getD (set xs n v) k 0 ≡ getD xs k 0
-kept xs n v k h = getD-set-other xs n k v 0 (λ e. omega arith)
-
-module _ {s : List ℕ} {family : ℕ} (block : isBlock family ≡ true) {numbers starts : List ℕ} {n i : ℕ} (g : Gathering s family numbers starts n i)
-    (room : i < 4096) {e : Entry} (a : EntryAt s i e) where
-  module _ (t : e .tag ≡ family) where
-    found : Block
-    found = blockAt s family i (e .start + 3)
-
-    next : drop n (blocksIn s family) ≡ found ∷ blocksLeft s family (i + 1)
+  module _ (k : ℕ) (h : blocks .from + k < blocks .until) (p : Passed k) where
+    next : drop k (blocksIn s (blocks .first)) ≡ found k ∷ blocksLeft s (blocks .first) (blocks .from + k + 1)
     unfolding found
-    next = g .rest ∙ left-next s family (widthOf family) i (low-family family block) refl e a ∙ rw (eq-eqb (e .tag) family t)
+    next = p .1 ∙ next-left q (omega arith) h refl
 
-    more : n < length (blocksIn s family)
-    more = let k = ap length next in omega (arith, length-drop n (blocksIn s family))
+    more : k < length (blocksIn s (blocks .first))
+    more = let e = ap length next in omega (arith, length-drop k (blocksIn s (blocks .first)))
 
-    split : nth (blocksIn s family) n ∷ drop (suc n) (blocksIn s family) ≡ found ∷ blocksLeft s family (i + 1)
-    split = sym (drop-cons (blocksIn s family) n absent more) ∙ next
+    split : nth (blocksIn s (blocks .first)) k ∷ drop (suc k) (blocksIn s (blocks .first)) ≡ found k ∷ blocksLeft s (blocks .first) (blocks .from + k + 1)
+    split = sym (drop-cons (blocksIn s (blocks .first)) k absent more) ∙ next
 
-    pub gather-found : {numbers′ starts′ : List ℕ} {n′ : ℕ} → numbers′ ≡ set numbers n i → starts′ ≡ set starts n (e .start + 3) → n′ ≡ n + 1
-        → Gathering s family numbers′ starts′ n′ (i + 1)
+  passed : (k : ℕ) → blocks .from + k ≤ blocks .until → Passed k
+  passed zero h = (omega arith, rw (add-zero (blocks .from)) (sym (run-start q)))
+  passed (suc k) h =
+      let p = passed k (omega arith) in
+      let b = more k (omega arith) p in
+      let e = split k (omega arith) p in
+      let w : blocks .from + suc k ≡ blocks .from + k + 1 = omega arith in
+      (omega arith, rw w (cc))
+
+  nth-found : (k : ℕ) → blocks .from + k < blocks .until → nth (blocksIn s (blocks .first)) k ≡ found k
+  nth-found k h = let e = split k h (passed k (omega arith)) in cc
+
+  module _ {starts : List ℕ} {n : ℕ} (g : Started places blocks starts n) where
+    pub gathered : Gathered s (blocks .first) starts n
     unfolding found
-    gather-found x y z =
-        rw (x, y, z) (record {
-          numbers-full = length-set numbers n i ∙ g .numbers-full;
-          starts-full = length-set starts n (e .start + 3) ∙ g .starts-full;
-          below = let b = g .below in omega arith;
-          upto = let b = more in omega arith;
-          here = λ k h. here-at k h (decLt k n);
-          fits = λ k h. fits-at k h (decLt k n);
-          rest = rw (add-one n) (let q = split in cc);
-        })
-      where
-        in-numbers : n < length numbers
-        in-numbers = let b = g .below in omega (arith, g .numbers-full)
-
-        in-starts : n < length starts
-        in-starts = let b = g .below in omega (arith, g .starts-full)
-
-        here-at : (k : ℕ) → k < n + 1 → Dec (k < n)
-            → nth (blocksIn s family) k ≡ blockAt s family (getD (set numbers n i) k 0) (getD (set starts n (e .start + 3)) k 0)
-        here-at k h (yes p) = rw (kept numbers n i k p, kept starts n (e .start + 3) k p) (g .here k p)
-        here-at k h (no p) =
-            let w : k ≡ n = omega arith in
-            let q : nth (blocksIn s family) n ≡ found = let r = split in cc in
-            rw (stored numbers n i k in-numbers w, stored starts n (e .start + 3) k in-starts w, w) q
-
-        fits-at : (k : ℕ) → k < n + 1 → Dec (k < n) → getD (set starts n (e .start + 3)) k 0 + 2 * widthOf family ≤ length s
-        fits-at k h (yes p) = rw (kept starts n (e .start + 3) k p) (g .fits k p)
-        fits-at k h (no p) =
-            let w : k ≡ n = omega arith in
-            rw (stored starts n (e .start + 3) k in-starts w) (range-fits s family (widthOf family) i (low-family family block) refl e a t)
-
-  pub gather-missed : (e .tag ≡ family → ⊥) → {numbers′ starts′ : List ℕ} {n′ : ℕ} → numbers′ ≡ numbers → starts′ ≡ starts → n′ ≡ n
-      → Gathering s family numbers′ starts′ n′ (i + 1)
-  gather-missed t x y z =
-      rw (x, y, z) (record {
-        numbers-full = g .numbers-full;
-        starts-full = g .starts-full;
-        below = let b = g .below in omega arith;
-        upto = g .upto;
-        here = g .here;
-        fits = g .fits;
-        rest = g .rest ∙ left-next s family (widthOf family) i (low-family family block) refl e a ∙ rw (ne-eqb (e .tag) family t);
-      })
-
-module _ {s : List ℕ} {count family : ℕ} (sound : verdictOf (imageOf s) ≡ Sound count) (block : isBlock family ≡ true)
-    {numbers starts : List ℕ} {n i : ℕ} (g : Gathering s family numbers starts n i) (h : count ≤ i) (below : i ≤ count) where
-  pub gather-end : Gathered s family starts n × Numbered s family numbers n
-  gather-end =
-      let e : drop n (blocksIn s family) ≡ [] = g .rest ∙ left-none s family i (omega (arith, counted (imageOf s) count sound)) in
-      let k = ap length e in
-      let u = g .upto in
-      let b = g .below in (
+    gathered =
+        let c = g .counted in
+        let p = passed n (omega arith) in
+        let e = ap length (p .1 ∙ run-end q (blocks .from + n) (omega arith) (omega arith)) in
         record {
-          nested = blocks-accepted s count sound family block;
-          counted = omega (arith, length-drop n (blocksIn s family));
-          few = omega (arith, few-records s count sound);
-          ranges = λ k p. ap (λ (x : Block). x .range) (g .here k p);
-          fits = g .fits;
-        },
-        λ k p. ap (λ (x : Block). x .number) (g .here k p),
-      )
+          nested = asked-accepted q;
+          counted = omega (arith, p .0, length-drop n (blocksIn s (blocks .first)));
+          few = omega (arith, asked-few q);
+          ranges = λ k h. rw (g .start k h, ← q .first-wide) (ap (λ (b : Block). b .range) (nth-found k (omega arith)));
+          fits = λ k h. rw (← q .first-wide) (comparable q {i = blocks .from + k} (omega arith) (omega arith) (g .start k h) .fits);
+        }
+
+    pub numbered : Numbered s (blocks .first) (blocks .from) n
+    unfolding found
+    numbered =
+        let c = g .counted in
+        record { few = omega (arith, asked-few q); number = λ k h. ap (λ (b : Block). b .number) (nth-found k (omega arith)) }

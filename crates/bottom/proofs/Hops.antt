@@ -74,10 +74,7 @@ module _ {s : List ℕ} {family : ℕ} {starts : List ℕ} {n : ℕ} (g : Gather
     pub hops-end : (j : ℕ) → Hopping (blocksIn s family) i j → n ≤ j → Link (blocksIn s family) i j
     hops-end j h q = hop-stop laminar i j h (λ x. absurd (omega (arith, g .counted)))
 
--- the links so far
-pub linked-none : (bs : List Block) (links : List ℕ) (n : ℕ) → length bs ≡ n → Linked bs links n
-linked-none bs links n e j h k = absurd (omega arith)
-
+-- one more link
 pub linked-more : (bs : List Block) (links : List ℕ) (i k : ℕ) → i < length links → Link bs i k → Linked bs links (i + 1) → Linked bs (set links i k) i
 linked-more bs links i k h n inv j p q = go (decLt i j)
   where

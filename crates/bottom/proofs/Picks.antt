@@ -5,7 +5,7 @@ use mathlib.Core.Path.{_≡_, refl, sym, ap, _∙_}
 use mathlib.Core.List.{List, [], _∷_, _++_}
 use native.Mathlib.Omega.{arith}
 use lib.Dec.{T}
-use lib.ListN.{length, take, drop, getD, set, length-set}
+use lib.ListN.{length, take, drop, set, length-set}
 use Rattle.address.specs.Lists.{any}
 use Rattle.address.specs.Ranges.{Range, strictlyInside}
 use Rattle.blocks.specs.Blocks.{Block}
@@ -22,12 +22,12 @@ use Rattle.bottom.proofs.Tests.{select-one, select-none}
 module _ {s : List ℕ} {family : ℕ} {starts : List ℕ} {n : ℕ} (g : Gathered s family starts n) (i : ℕ) (h : i < n) (f : Block → Bool)
     {v : Bool} (t : v ≡ f (nth (blocksIn s family) i)) (hits : List ℕ) (m : ℕ) (full : length hits ≡ 4096) {R : List ℕ}
     (inv : take m hits ++ select f (drop i (blocksIn s family)) ≡ R) where
-  pub pick : v ≡ true → m < 4096 → (numbers : List ℕ) → nth (blocksIn s family) i .number ≡ getD numbers i 0
-      → {hits′ : List ℕ} {m′ : ℕ} → hits′ ≡ set hits m (getD numbers i 0) → m′ ≡ m + 1
+  pub pick : v ≡ true → m < 4096 → (number : ℕ) → nth (blocksIn s family) i .number ≡ number
+      → {hits′ : List ℕ} {m′ : ℕ} → hits′ ≡ set hits m number → m′ ≡ m + 1
       → (length hits′ ≡ 4096) × (take m′ hits′ ++ select f (drop (i + 1) (blocksIn s family)) ≡ R)
-  pick e k numbers o x y = (
-    ap length x ∙ length-set hits m (getD numbers i 0) ∙ full,
-    rw (x, y) (one-more hits m (getD numbers i 0) (select-one g i h f t e ∙ ap (λ (a : ℕ). a ∷ select f (drop (i + 1) (blocksIn s family))) o) (omega arith) inv),
+  pick e k number o x y = (
+    ap length x ∙ length-set hits m number ∙ full,
+    rw (x, y) (one-more hits m number (select-one g i h f t e ∙ ap (λ (a : ℕ). a ∷ select f (drop (i + 1) (blocksIn s family))) o) (omega arith) inv),
   )
 
   pub pass : v ≡ false → {hits′ : List ℕ} {m′ : ℕ} → hits′ ≡ hits → m′ ≡ m

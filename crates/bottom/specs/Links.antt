@@ -7,6 +7,7 @@ use lib.Dec.{T}
 use lib.ListN.{length, getD}
 use Rattle.address.specs.Number.{value}
 use Rattle.records.specs.Record.{widthOf}
+use Rattle.image.specs.declared.Run.{Run}
 use Rattle.blocks.specs.Blocks.{Block}
 use Rattle.blocks.specs.Defects.{accepted}
 use Rattle.scans.specs.Standing.{blocksIn, rangeIn}
@@ -29,6 +30,17 @@ pub record Link (bs : List Block) (i k : ℕ) : Type 0 where
 abbrev pub Linked : List Block → List ℕ → ℕ → Type 0
 Linked bs links i = (j : ℕ) → i ≤ j → j < length bs → Link bs j (getD links j 0)
 
+-- the records of a run, each of which starts inside an image
+pub record Reachable (places : List ℕ) (blocks : Run) : Type 0 where
+  pub forward : blocks .from ≤ blocks .until
+  pub few : blocks .until ≤ 4096
+  pub low : (i : ℕ) → blocks .from ≤ i → i < blocks .until → getD places i 0 ≤ 262144
+
+-- where the ranges of the n blocks of a run start
+pub record Started (places : List ℕ) (blocks : Run) (starts : List ℕ) (n : ℕ) : Type 0 where
+  pub counted : blocks .from + n ≡ blocks .until
+  pub start : (k : ℕ) → k < n → getD starts k 0 ≡ getD places (blocks .from + k) 0 + 6
+
 -- the n blocks of a family of a sound image, and where their ranges start
 pub record Gathered (s : List ℕ) (family : ℕ) (starts : List ℕ) (n : ℕ) : Type 0 where
   pub nested : T (accepted (blocksIn s family))
@@ -37,9 +49,10 @@ pub record Gathered (s : List ℕ) (family : ℕ) (starts : List ℕ) (n : ℕ) 
   pub ranges : (k : ℕ) → k < n → nth (blocksIn s family) k .range ≡ rangeIn s (getD starts k 0) (widthOf family)
   pub fits : (k : ℕ) → k < n → getD starts k 0 + 2 * widthOf family ≤ length s
 
--- and their record numbers
-abbrev pub Numbered : List ℕ → ℕ → List ℕ → ℕ → Type 0
-Numbered s family numbers n = (k : ℕ) → k < n → nth (blocksIn s family) k .number ≡ getD numbers k 0
+-- and their record numbers, one after another
+pub record Numbered (s : List ℕ) (family from n : ℕ) : Type 0 where
+  pub few : from + n ≤ 4096
+  pub number : (k : ℕ) → k < n → nth (blocksIn s family) k .number ≡ from + k
 
 -- the first address that no child seen so far holds, where the last child seen, if any, ends at kept
 abbrev pub freeFrom : ℕ → Bool → ℕ → ℕ

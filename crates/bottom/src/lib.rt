@@ -6,44 +6,30 @@ ghost use lib.ListN.{length};
 ghost use Rattle.address.specs.Lists.{any as «any_of»};
 ghost use Rattle.address.specs.Number.{value};
 ghost use Rattle.address.specs.Ranges.{overlaps as «overlaps_of», strictlyInside};
-ghost use mathlib.Core.Bool.{true};
-ghost use Rattle.records.specs.Record.{isBlock, widthOf};
-ghost use Rattle.image.specs.Image.{imageOf};
-ghost use Rattle.image.specs.Place.{verdictOf};
-ghost use Rattle.image.specs.declared.Verdict.the-variants as Verdict;
+ghost use Rattle.records.specs.Record.{widthOf};
 ghost use Rattle.blocks.specs.Relations.{select, bottom as «bottom_of»};
 ghost use Rattle.blocks.specs.Scans.{gapIn};
 ghost use Rattle.scans.specs.Standing.{blocksIn, numberIn, rangeIn, between, Asked};
 ghost use Rattle.listing.specs.Listing.{Collected};
 ghost use Rattle.scans.specs.Tests.{Wide, Comparable};
-ghost use Rattle.bottom.specs.Links.{nth, Link, Linked, Gathered, Numbered, Testable, freeFrom};
+ghost use Rattle.bottom.specs.Links.{nth, Link, Linked, Reachable, Started, Gathered, Numbered, Testable, freeFrom};
 use address::word4;
 use address::word8;
+use image::Run;
 use records::width_of;
 use scans::at_most;
+use scans::range_start;
 
-// The family's blocks: their record numbers and where their ranges start.
-fn gather(
-    image: &[u8],
-    count: u32,
-    family: u8,
-    numbers: &mut [u32; 4096],
-    starts: &mut [u32; 4096],
-) -> usize
-    requires { ⌜ (verdictOf (imageOf (now image)) ≡ Verdict.Sound count) × (isBlock family ≡ true) × (length (now numbers) ≡ 4096) × (length (now starts) ≡ 4096) ⌝ }
-    ensures { λ r. ⌜ Gathered (now (image .entry)) family (now (starts .exit)) r × Numbered (now (image .entry)) family (now (numbers .exit)) r ⌝ }
+// Where the ranges of the blocks start.
+fn gather(places: &[u32; 4096], blocks: Run, starts: &mut [u32; 4096]) -> usize
+    requires { ⌜ Reachable (now places) blocks × (length (now starts) ≡ 4096) ⌝ }
+    ensures { λ r. ⌜ Started (now (places .entry)) blocks (now (starts .exit)) r ⌝ }
 {
     let mut n: usize = 0;
-    let mut at: usize = 4;
-    let mut i: u32 = 0;
-    while i < count {
-        let e = image::entry_at(image, i, at);
-        if e.tag == family {
-            numbers[n] = i;
-            starts[n] = (e.start + 3) as u32;
-            n += 1;
-        }
-        at = e.end;
+    let mut i = blocks.from;
+    while i < blocks.until {
+        starts[n] = range_start(places, i) as u32;
+        n += 1;
         i += 1;
     }
     n
@@ -231,18 +217,18 @@ fn any_inside(
     false
 }
 
-// The record numbers of the blocks that are the smallest one holding some address of first to last.
+// The record numbers of the blocks that are the smallest one holding some address of first to last. The first block has the number from.
 fn holders(
     image: &[u8],
     family: u8,
-    numbers: &[u32; 4096],
+    from: u32,
     starts: &[u32; 4096],
     n: usize,
     first: &[u8],
     last: &[u8],
     hits: &mut [u32; 4096],
 ) -> usize
-    requires { ⌜ Gathered (now image) family (now starts) n × Numbered (now image) family (now numbers) n
+    requires { ⌜ Gathered (now image) family (now starts) n × Numbered (now image) family from n
         × (length (now first) ≡ widthOf family) × (length (now last) ≡ widthOf family) × (value (now first) ≤ value (now last)) × (length (now hits) ≡ 4096) ⌝ }
     ensures { λ r. ⌜ Collected (now (hits .exit)) (select (λ b. gapIn (blocksIn (now (image .entry)) family) (between (now (first .entry)) (now (last .entry))) (b .range)) (blocksIn (now (image .entry)) family)) r ⌝ }
 {
@@ -251,7 +237,7 @@ fn holders(
     let mut i: usize = 0;
     while i < n {
         if leaves_gap(image, family, starts, &links, n, i, first, last) {
-            hits[m] = numbers[i];
+            hits[m] = from + i as u32;
             m += 1;
         }
         i += 1;
@@ -262,20 +248,28 @@ fn holders(
 // Bottom: those blocks, where some block is strictly inside first to last.
 pub fn bottom(
     image: &[u8],
-    count: u32,
-    family: u8,
+    places: &[u32; 4096],
+    blocks: Run,
     first: &[u8],
     last: &[u8],
     hits: &mut [u32; 4096],
 ) -> usize
-    requires { ⌜ Asked (now image) count family (now first) (now last) × (length (now hits) ≡ 4096) ⌝ }
-    ensures { λ r. ⌜ Collected (now (hits .exit)) («bottom_of» (blocksIn (now (image .entry)) family) (between (now (first .entry)) (now (last .entry)))) r ⌝ }
+    requires { ⌜ Asked (now image) (now places) blocks (now first) (now last) × (length (now hits) ≡ 4096) ⌝ }
+    ensures { λ r. ⌜ Collected (now (hits .exit)) («bottom_of» (blocksIn (now (image .entry)) (blocks .first)) (between (now (first .entry)) (now (last .entry)))) r ⌝ }
 {
-    let mut numbers = [0u32; 4096];
     let mut starts = [0u32; 4096];
-    let n = gather(image, count, family, &mut numbers, &mut starts);
-    if !any_inside(image, family, &starts, n, first, last) {
+    let n = gather(places, blocks, &mut starts);
+    if !any_inside(image, blocks.first, &starts, n, first, last) {
         return 0;
     }
-    holders(image, family, &numbers, &starts, n, first, last, hits)
+    holders(
+        image,
+        blocks.first,
+        blocks.from,
+        &starts,
+        n,
+        first,
+        last,
+        hits,
+    )
 }

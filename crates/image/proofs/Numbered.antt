@@ -1,31 +1,27 @@
 -- The records of a sound image one after another: a reader that has passed n fields stands at record n, since what is left of the image
--- after each record is sound too (`Passed`), and what it finds there is an entry of that record (`entry-at`).
+-- after each record is sound too (`Passed`), and finds the field of that record there (`stands-here`).
 use mathlib.Core.Path.{_≡_, refl, sym, _∙_, ap}
 use mathlib.Core.Bool.{Bool, true, false, cond}
 use mathlib.Core.List.{List, [], _∷_, _++_, reverse, reverse-cons}
-use Prim.Native.Nat.{ℕ, zero, suc, _+_, _-_, _*_, _≤_, _<_}
+use Prim.Native.Nat.{ℕ, zero, suc, _+_, _-_, _≤_, _<_}
 use native.Mathlib.Omega.{arith}
-use native.Mathlib.Nat.{le-refl, le-trans}
-use native.Mathlib.Numerals.{add-one}
-use borrow.Author.Tests.{le-leb}
+use native.Mathlib.Nat.{le-refl}
 use lib.Dec.{leb}
 use lib.ListN.{length, take, drop, getD, length-reverse}
 use lib.Seq.{slice, take-length, take-take, take-at, drop-cons, getD-take, getD-at}
-use Rattle.address.specs.Address.{numbers, rangeAt, number-at}
 use Rattle.fields.specs.Field.{Head, field, short, headOf}
 use Rattle.fields.specs.Place.{fieldAt, headAt, FieldInside, behind, passed}
-use Rattle.fields.specs.Heads.{head-slice, field-tag, field-inside, passed-next}
-use Rattle.fields.specs.Slices.{take-slice, drop-slice, part-slice}
+use Rattle.fields.specs.Heads.{head-slice, field-inside}
 use Rattle.fields.specs.declared.Field.{Field}
 use Rattle.fields.specs.declared.Field.the-variants.{Whole, Short}
-use Rattle.records.specs.Record.{Record, isBlock, widthOf, rangeFrom}
+use Rattle.records.specs.Record.{Record}
 use Rattle.records.specs.Judge.{Judged, bad, good, judge, judgeAlone}
 use Rattle.records.proofs.Accepted.{Accepted, alone-good, overlap-good}
-use Rattle.records.proofs.Laid.{Laid, laid}
 use Rattle.image.specs.Image.{Image, sound, defective, nextOf, afterJudged, afterNext, imageFrom, imageOf, startsRight}
 use Rattle.image.specs.Part.{recordsOf}
-use Rattle.image.specs.Entries.{placeOf, EntryAt}
+use Rattle.image.specs.Entries.{placeOf}
 use Rattle.image.proofs.Walk.{start-length}
+use Rattle.image.proofs.Soundness.{not-sound}
 
 -- what a sound image has at a position where records are still to come
 pub record Ahead (n : ℕ) (earlier : List Record) (l : List ℕ) (records : List Record) : Type 0 where
@@ -36,9 +32,6 @@ pub record Ahead (n : ℕ) (earlier : List Record) (l : List ℕ) (records : Lis
   pub head : headOf l ≡ field tag contents rest
   pub judged : judge earlier tag contents ≡ good r
   pub onward : imageFrom (n - 1) (r ∷ earlier) rest ≡ sound records
-
-not-sound : (d p : ℕ) (records : List Record) → defective d p ≡ sound records → ⊥
-not-sound d p records e = let z : _≡_ {A = ℕ} 0 1 = cc in omega arith
 
 same-length : (a b : List Record) → sound (reverse a) ≡ sound b → length a ≡ length b
 same-length a b e = let f : reverse a ≡ b = cc in sym (length-reverse a) ∙ ap length f
@@ -105,6 +98,18 @@ module _ (n : ℕ) (earlier : List Record) (l : List ℕ) (records : List Record
       ∙ rw f (getD-at (reverse earlier) (a .r) [] (a .r) (length earlier) (length-reverse earlier)) in
       drop-cons records (length earlier) (a .r) h ∙ ap (λ (x : Record). x ∷ drop (suc (length earlier)) records) g
 
+-- The field at the position of record i, which was accepted after the earlier ones.
+pub record Stood (s : List ℕ) (i at : ℕ) : Type 0 where
+  pub tag : ℕ
+  pub start : ℕ
+  pub end : ℕ
+  pub r : Record
+  pub earlier : List Record
+  pub field-here : fieldAt s at (length s) ≡ Whole tag start end
+  pub listed : drop i (recordsOf (imageOf s)) ≡ r ∷ drop (i + 1) (recordsOf (imageOf s))
+  pub accepted : Accepted earlier tag (slice start end s) r
+  pub inside : FieldInside at (length s) start end
+
 -- After i records of a sound image the next one starts at a position.
 record Passed (s : List ℕ) (i at : ℕ) : Type 0 where
   earlier : List Record
@@ -128,18 +133,6 @@ sound-start s records e = by-tests (leb (length s) 262144) (startsRight s) refl 
     by-tests true false x y z = absurd (not-sound _ _ records z)
     by-tests false u x y z = absurd (not-sound _ _ records z)
 
--- the range read at a position
-range-read : (s : List ℕ) (at w : ℕ) → numbers (rangeAt s at w) ≡ rangeFrom w (slice at (at + 2 * w) s)
-range-read s at w =
-    let a : at + w - at ≡ w = omega arith in
-    let b : at + 2 * w - (at + w) ≡ w = omega arith in
-    let x : take w (drop at s) ≡ slice at (at + w) s = rw a at (part-slice at (at + w) s (omega arith)) in
-    let y : take w (drop (at + w) s) ≡ slice (at + w) (at + 2 * w) s = rw b at (part-slice (at + w) (at + 2 * w) s (omega arith)) in
-    rw (number-at s at w, number-at s (at + w) w, x, y, take-slice w at (at + 2 * w) s (omega arith), drop-slice w at (at + 2 * w) s)
-
-block-of : (tag : ℕ) → 16 ≤ tag → tag ≤ 18 → isBlock tag ≡ true
-block-of tag h k = rw (le-leb 0x10 tag h, le-leb tag 0x12 k)
-
 module _ (s : List ℕ) (n : ℕ) (h : n < length (recordsOf (imageOf s))) where
   whole-image : imageOf s ≡ sound (recordsOf (imageOf s))
   whole-image = is-sound (imageOf s) n h
@@ -159,53 +152,66 @@ module _ (s : List ℕ) (n : ℕ) (h : n < length (recordsOf (imageOf s))) where
     to-come : Ahead (4096 - i) (w .earlier) (slice at (length s) s) (recordsOf (imageOf s))
     to-come = next-ahead (4096 - i) (w .earlier) (slice at (length s) s) (recordsOf (imageOf s)) fewer sound-left
 
-    module _ (f : Field) (e : f ≡ fieldAt s at (length s)) where
-      head-here : headAt s (length s) f ≡ field (to-come .tag) (to-come .contents) (to-come .rest)
-      head-here = rw e (head-slice s at (length s) (w .inside) (le-refl _)) ∙ to-come .head
+    head-here : headAt s (length s) (fieldAt s at (length s)) ≡ field (to-come .tag) (to-come .contents) (to-come .rest)
+    head-here = head-slice s at (length s) (w .inside) (le-refl _) ∙ to-come .head
 
-      pass-short : f ≡ Short → ⊥
-      pass-short g =
-          let x : short ≡ field (to-come .tag) (to-come .contents) (to-come .rest) = rw g at head-here in
-          let z : _≡_ {A = ℕ} 0 1 = cc in omega arith
+    pass-short : fieldAt s at (length s) ≡ Short → ⊥
+    pass-short e =
+        let x : short ≡ field (to-come .tag) (to-come .contents) (to-come .rest) = rw e at head-here in
+        let z : _≡_ {A = ℕ} 0 1 = cc in omega arith
 
-      module _ (t a b : ℕ) (g : f ≡ Whole t a b) where
-        same-head : field t (slice a b s) (slice b (length s) s) ≡ field (to-come .tag) (to-come .contents) (to-come .rest)
-        same-head = rw g at head-here
+    listed-here : drop i (recordsOf (imageOf s)) ≡ to-come .r ∷ drop (i + 1) (recordsOf (imageOf s))
+    unfolding to-come
+    listed-here =
+        let c : suc (length (w .earlier)) ≡ i + 1 = omega (arith, w .counted) in
+        sym (ap (λ (m : ℕ). drop m (recordsOf (imageOf s))) (w .counted))
+        ∙ numbered (4096 - i) (w .earlier) (slice at (length s) s) (recordsOf (imageOf s)) fewer sound-left
+        ∙ ap (λ (m : ℕ). to-come .r ∷ drop m (recordsOf (imageOf s))) c
 
-        pass-inside : FieldInside at (length s) a b
-        pass-inside = field-inside s at (length s) t a b (w .inside) (sym e ∙ g)
+    module _ (t a b : ℕ) (e : fieldAt s at (length s) ≡ Whole t a b) where
+      same-head : field t (slice a b s) (slice b (length s) s) ≡ field (to-come .tag) (to-come .contents) (to-come .rest)
+      same-head = rw e at head-here
 
-        pass-next : Passed s (i + 1) b
-        pass-next =
-            let y = same-head in
-            let x : slice b (length s) s ≡ to-come .rest = cc in
-            let z : 4096 - (i + 1) ≡ 4096 - i - 1 = omega arith in
-            record {
-              earlier = to-come .r ∷ w .earlier;
-              counted = rw (w .counted) (omega arith);
-              inside = pass-inside .within;
-              left = rw (x, z) (to-come .onward) ∙ sym whole-image;
-            }
+      pass-inside : FieldInside at (length s) a b
+      pass-inside = field-inside s at (length s) t a b (w .inside) e
 
-        -- the record here was accepted
-        accepted-here : Accepted (w .earlier) t (slice a b s) (to-come .r)
-        accepted-here =
-            let y = same-head in
-            let u : t ≡ to-come .tag = cc in
-            let v : slice a b s ≡ to-come .contents = cc in
-            rw (u, v) (alone-good (w .earlier) (to-come .tag) (to-come .contents) (to-come .r)
-            (overlap-good (w .earlier) (judgeAlone (w .earlier) (to-come .tag) (to-come .contents)) (to-come .r) (to-come .judged) .0))
+      pass-next : Passed s (i + 1) b
+      pass-next =
+          let y = same-head in
+          let x : slice b (length s) s ≡ to-come .rest = cc in
+          let z : 4096 - (i + 1) ≡ 4096 - i - 1 = omega arith in
+          record {
+            earlier = to-come .r ∷ w .earlier;
+            counted = rw (w .counted) (omega arith);
+            inside = pass-inside .within;
+            left = rw (x, z) (to-come .onward) ∙ sym whole-image;
+          }
 
-        listed-here : drop i (recordsOf (imageOf s)) ≡ to-come .r ∷ drop (i + 1) (recordsOf (imageOf s))
-        unfolding to-come
-        listed-here =
-            let c : suc (length (w .earlier)) ≡ i + 1 = omega (arith, w .counted) in
-            sym (ap (λ (m : ℕ). drop m (recordsOf (imageOf s))) (w .counted))
-            ∙ numbered (4096 - i) (w .earlier) (slice at (length s) s) (recordsOf (imageOf s)) fewer sound-left
-            ∙ ap (λ (m : ℕ). to-come .r ∷ drop m (recordsOf (imageOf s))) c
+      -- the record here was accepted
+      accepted-here : Accepted (w .earlier) t (slice a b s) (to-come .r)
+      accepted-here =
+          let y = same-head in
+          let u : t ≡ to-come .tag = cc in
+          let v : slice a b s ≡ to-come .contents = cc in
+          rw (u, v) (alone-good (w .earlier) (to-come .tag) (to-come .contents) (to-come .r)
+          (overlap-good (w .earlier) (judgeAlone (w .earlier) (to-come .tag) (to-come .contents)) (to-come .r) (to-come .judged) .0))
 
-        laid-here : Laid s t a b (to-come .r)
-        laid-here = laid s t a b (to-come .r) (pass-inside .forward) (pass-inside .within) (accepted-here .parsed)
+      stood : Stood s i at
+      stood = record {
+        tag = t;
+        start = a;
+        end = b;
+        r = to-come .r;
+        earlier = w .earlier;
+        field-here = e;
+        listed = listed-here;
+        accepted = accepted-here;
+        inside = pass-inside;
+      }
+
+    by-field : (f : Field) → fieldAt s at (length s) ≡ f → Stood s i at
+    by-field Short e = absurd (pass-short e)
+    by-field (Whole t a b) e = stood t a b e
 
   passes : (k i at : ℕ) → i + k ≡ n → Passed s i at → Passed s n (passed s k at)
   unfolding passed
@@ -214,51 +220,11 @@ module _ (s : List ℕ) (n : ℕ) (h : n < length (recordsOf (imageOf s))) where
       rw d at w
   passes (suc k) i at e w = by-field (fieldAt s at (length s)) refl (λ b. passes k (i + 1) b (omega arith))
     where
-      by-field : (f : Field) → f ≡ fieldAt s at (length s) → ((b : ℕ) → Passed s (i + 1) b → Passed s n (passed s k b)) → Passed s n (passed s k (behind f at))
-      by-field Short g next = absurd (pass-short i at w (omega arith) Short g refl)
-      by-field (Whole t a b) g next = next b (pass-next i at w (omega arith) (Whole t a b) g t a b refl)
+      by-field : (f : Field) → fieldAt s at (length s) ≡ f → ((b : ℕ) → Passed s (i + 1) b → Passed s n (passed s k b)) → Passed s n (passed s k (behind f at))
+      by-field Short g next = absurd (pass-short i at w (omega arith) g)
+      by-field (Whole t a b) g next = next b (pass-next i at w (omega arith) t a b g)
 
-  pass-all : Passed s n (placeOf s n)
+  pub stands-here : Stood s n (placeOf s n)
   unfolding placeOf
-  pass-all = passes n 0 4 (omega arith) pass-none
-
-  module _ (f : Field) (e : f ≡ fieldAt s (placeOf s n) (length s)) where
-    pub not-short : f ≡ Short → ⊥
-    not-short = pass-short n (placeOf s n) pass-all (le-refl n) f e
-
-    module _ (t a b : ℕ) (g : f ≡ Whole t a b) where
-      next-place : b ≡ placeOf s (n + 1)
-      unfolding placeOf
-      next-place = sym (rw (add-one n) (passed-next s n 4 ∙ rw (← e, g)))
-
-      accepted-entry : Accepted (pass-all .earlier) t (slice a b s) (to-come n (placeOf s n) pass-all (le-refl n) .r)
-      accepted-entry = accepted-here n (placeOf s n) pass-all (le-refl n) f e t a b g
-
-      inside-entry : FieldInside (placeOf s n) (length s) a b
-      inside-entry = pass-inside n (placeOf s n) pass-all (le-refl n) f e t a b g
-
-      laid-entry : Laid s t a b (to-come n (placeOf s n) pass-all (le-refl n) .r)
-      laid-entry = laid-here n (placeOf s n) pass-all (le-refl n) f e t a b g
-
-      pub entry-at : EntryAt s n (record { tag = t; start = a; end = b })
-      entry-at =
-          let l = laid-entry in
-          record {
-            r = to-come n (placeOf s n) pass-all (le-refl n) .r;
-            here = listed-here n (placeOf s n) pass-all (le-refl n) f e t a b g;
-            tag = sym (l .own-tag);
-            low = accepted-entry .low;
-            high = accepted-entry .high;
-            tag-byte = field-tag s (placeOf s n) (length s) t a b (sym e ∙ g);
-            begins = sym (inside-entry .after);
-            next = next-place;
-            forward = inside-entry .forward;
-            within = inside-entry .within;
-            range-inside = λ z. le-trans (l .range-inside (block-of t (accepted-entry .low) z)) (inside-entry .within);
-            range = λ z. l .range (block-of t (accepted-entry .low) z);
-            range-numbers = λ z. range-read s (a + 3) (widthOf t) ∙ rw (l .range (block-of t (accepted-entry .low) z), l .own-tag);
-            handle = l .handle;
-            handle-inside = l .handle-inside;
-            name = l .name;
-            name-inside = l .name-inside;
-          }
+  stands-here = let w = passes n 0 4 (omega arith) pass-none in
+      by-field n (placeOf s n) w (le-refl n) (fieldAt s (placeOf s n) (length s)) refl

@@ -35,7 +35,7 @@ module _ (s : List ℕ) (before : ℕ) (p : Parts) (at : ℕ) (q : at ≤ length
       read-good r h =
           let k : good (recordAt s tag r) ≡ judgeAlone (previousOf s before p) tag (slice a b s) = rw h at (m .same) in
           let i = read-inside in
-          record { same = rw (← head-slice s at (length s) q (le-refl _), ← e, g, ← k); placed = ((rw h at (m .placed)), omega arith, i .within) }
+          record { same = rw (← head-slice s at (length s) q (le-refl _), ← e, g, ← k); placed = ((rw h at (m .placed)), omega arith, i .within, rw (← e, g)) }
 
       pub read-bad : (d : ℕ) → j ≡ Bad d → ReadAt s before p at (Refused d)
       read-bad d h =

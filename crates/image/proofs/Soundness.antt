@@ -12,9 +12,9 @@ use Rattle.records.specs.Record.{Record}
 use Rattle.image.specs.Image.{Image, sound, defective, Next, refused, taken, nextOf, afterNext, imageFrom, startsRight, imageOf}
 use Rattle.image.specs.Part.{recordsOf}
 use Rattle.image.specs.Place.{verdictOf}
-use Rattle.image.specs.declared.Verdict.the-variants.{Sound, Defective}
+use Rattle.image.specs.declared.Verdict.the-variants.{Sound}
 
-not-sound : (d p : ℕ) (records : List Record) → defective d p ≡ sound records → ⊥
+pub not-sound : (d p : ℕ) (records : List Record) → defective d p ≡ sound records → ⊥
 not-sound d p records e = let z : _≡_ {A = ℕ} 0 1 = cc in omega arith
 
 pub is-sound : (i : Image) (n : ℕ) → verdictOf i ≡ Sound n → i ≡ sound (recordsOf i)

@@ -10,6 +10,7 @@ use native.Mathlib.Nat.{le-refl}
 use lib.ListN.{length, take, set, length-reverse, length-set}
 use lib.Seq.{slice, length-slice, take-length, slice-empty}
 use Rattle.fields.specs.Field.{Head, field, short, headOf}
+use Rattle.fields.specs.Place.{fieldAt, behind}
 use Rattle.records.specs.Record.{Record, Parsed, whole, malformed, isKnown, recordOf, widthOf, firstOf}
 use Rattle.records.specs.Judge.{Judged, bad, judgeParsed, judgeAlone, judgeOverlap, inOrder, crossesAny, good}
 use Rattle.records.specs.Place.{recordAt, previousOf, Placed}
@@ -150,7 +151,7 @@ module _ (s : List ℕ) (before : ℕ) (p : Parts) (stack : List ℕ) (depth cou
       walk-bad d e = let f : defective d (length (w .earlier)) ≡ imageOf s = rw e at one-step in rw (← f, w .counted)
 
       module _ (tag : ℕ) (q : Parts) (to : ℕ) (e : r ≡ Taken tag q to) where
-        pub taken-placed : Placed tag (length s) q × (at < to) × (to ≤ length s)
+        pub taken-placed : Placed tag (length s) q × (at < to) × (to ≤ length s) × (to ≡ behind (fieldAt s at (length s)) at)
         taken-placed = rw e at (m .placed)
 
         accepted : Taking (previousOf s before p) (recordAt s tag q)

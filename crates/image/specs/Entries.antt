@@ -1,19 +1,16 @@
--- The records of a sound image by their numbers: where each stands, and what the code finds there.
+-- The records of a sound image by their numbers: where each stands, and where its handle and name are.
 use mathlib.Core.Bool.{cond}
 use mathlib.Core.Path.{_≡_, refl}
-use mathlib.Core.List.{List, _∷_}
-use Prim.Native.Nat.{ℕ, _+_, _*_, _≤_}
+use mathlib.Core.List.{List}
+use Prim.Native.Nat.{ℕ, _+_}
 use lib.Dec.{ltb}
-use lib.ListN.{length, drop, getD}
+use lib.ListN.{length, getD}
 use lib.Seq.{slice}
-use Rattle.address.specs.Address.{numbers, rangeAt}
 use Rattle.fields.specs.Place.{passed}
-use Rattle.records.specs.Record.{Record, widthOf, rangeOf}
-use Rattle.records.specs.Place.{bytesOf, handleSpan, nameSpan, Inside}
+use Rattle.records.specs.Place.{handleSpan, nameSpan, Inside}
 use Rattle.records.specs.declared.Span.{Span}
 use Rattle.image.specs.Image.{imageOf}
 use Rattle.image.specs.Part.{recordsOf, excerptOf}
-use Rattle.image.specs.declared.Entry.{Entry}
 use Rattle.image.specs.declared.Which.{Which}
 use Rattle.image.specs.declared.Which.the-variants.{Handle, Name}
 
@@ -24,26 +21,6 @@ placeOf s i = passed s i 4
 pub place-start : (s : List ℕ) → 4 ≡ placeOf s 0
 unfolding placeOf passed
 place-start s = refl
-
--- What an entry says of record i. `r` is the record; a walk goes on at `next`.
-pub record EntryAt (s : List ℕ) (i : ℕ) (e : Entry) : Type 0 where
-  pub r : Record
-  pub here : drop i (recordsOf (imageOf s)) ≡ r ∷ drop (i + 1) (recordsOf (imageOf s))
-  pub tag : e .tag ≡ r .tag
-  pub low : 16 ≤ e .tag
-  pub high : e .tag ≤ 21
-  pub tag-byte : e .tag ≡ getD s (placeOf s i) 0
-  pub begins : e .start ≡ placeOf s i + 3
-  pub next : e .end ≡ placeOf s (i + 1)
-  pub forward : e .start ≤ e .end
-  pub within : e .end ≤ length s
-  pub range-inside : e .tag ≤ 18 → e .start + 3 + 2 * widthOf (e .tag) ≤ length s
-  pub range : e .tag ≤ 18 → slice (e .start + 3) (e .start + 3 + 2 * widthOf (e .tag)) s ≡ r .range
-  pub range-numbers : e .tag ≤ 18 → numbers (rangeAt s (e .start + 3) (widthOf (e .tag))) ≡ rangeOf r
-  pub handle : bytesOf s (handleSpan s (e .tag) (e .start)) ≡ r .handle
-  pub handle-inside : Inside (length s) (handleSpan s (e .tag) (e .start))
-  pub name : bytesOf s (nameSpan s (e .tag) (e .start)) ≡ r .name
-  pub name-inside : Inside (length s) (nameSpan s (e .tag) (e .start))
 
 abbrev pub textSpan : Which → List ℕ → ℕ → ℕ → Span
 textSpan Handle s tag start = handleSpan s tag start

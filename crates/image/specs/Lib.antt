@@ -4,3 +4,4 @@ pub mod Place
 pub mod Entries
 pub mod Example
 pub mod Computing
+pub mod Index

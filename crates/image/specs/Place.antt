@@ -8,6 +8,7 @@ use lib.ListN.{length, getD}
 use lib.Seq.{slice}
 use Rattle.address.specs.Number.{value}
 use Rattle.fields.specs.Field.{Head, field, short, headOf}
+use Rattle.fields.specs.Place.{fieldAt, behind}
 use Rattle.records.specs.Record.{Record, widthOf}
 use Rattle.records.specs.Judge.{judgeAlone}
 use Rattle.records.specs.Place.{recordAt, previousOf, Placed}
@@ -35,13 +36,14 @@ abbrev pub nextAt : List ℕ → Reading → Next
 nextAt s (Refused defect) = refused defect
 nextAt s (Taken tag p to) = taken (recordAt s tag p) (slice to (length s) s)
 
-abbrev pub TakenPlaced : ℕ → ℕ → Reading → Type 0
-TakenPlaced at end (Refused defect) = Unit {0}
-TakenPlaced at end (Taken tag p to) = Placed tag end p × (at < to) × (to ≤ end)
+-- a record's parts lie in the image, and the next one starts behind its field
+abbrev pub TakenPlaced : List ℕ → ℕ → Reading → Type 0
+TakenPlaced s at (Refused defect) = Unit {0}
+TakenPlaced s at (Taken tag p to) = Placed tag (length s) p × (at < to) × (to ≤ length s) × (to ≡ behind (fieldAt s at (length s)) at)
 
 pub record ReadAt (s : List ℕ) (before : ℕ) (p : Parts) (at : ℕ) (r : Reading) : Type 0 where
   pub same : nextAt s r ≡ nextAlone (previousOf s before p) (headOf (slice at (length s) s))
-  pub placed : TakenPlaced at (length s) r
+  pub placed : TakenPlaced s at r
 
 -- Defect 7 by the open blocks: the last addresses of those whose ranges start at the first `depth` positions of `stack`, the innermost first
 

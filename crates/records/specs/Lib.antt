@@ -3,3 +3,4 @@ pub mod Judge
 pub mod Place
 pub mod Examples
 pub mod Computing
+pub mod Layout

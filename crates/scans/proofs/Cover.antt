@@ -1,9 +1,9 @@
 -- Covering and lying inside, by two comparisons each; strictly, by not the other way round too.
-use mathlib.Core.Bool.{Bool, true, false, not, _&&_}
+use mathlib.Core.Bool.{Bool, true, false, not}
 use mathlib.Core.Path.{_≡_, refl, sym, _∙_}
-use Prim.Native.Nat.{ℕ, zero, suc, _<_}
-use lib.Dec.{leb, eqb}
-use borrow.Author.Tests.{eq-eqb, ne-eqb, le-leb, lt-leb, leb-true, leb-false}
+use Prim.Native.Nat.{ℕ, zero, suc, _≤_, _<_}
+use lib.Dec.{leb, ltb}
+use borrow.Author.Tests.{eq-eqb, ne-eqb, le-leb, lt-ltb, le-ltb, leb-true, leb-false}
 use native.Mathlib.Omega.{arith}
 use Rattle.address.specs.Ranges.{Range, covers, strictlyCovers, strictlyInside}
 use Rattle.address.proofs.Covering.{strictly-covers}
@@ -17,6 +17,9 @@ module _ (a b : Range) {u : Bool} (e : u ≡ leb (a .first) (b .first)) where
   pub covers-yes : u ≡ true → {v : Bool} → v ≡ leb (b .last) (a .last) → v ≡ covers a b
   unfolding covers
   covers-yes f g = rw (sym e ∙ f) g
+
+pub covers-from : (a b : Range) → a .first ≤ b .first → {v : Bool} → v ≡ leb (b .last) (a .last) → v ≡ covers a b
+covers-from a b h g = covers-yes a b refl (le-leb (a .first) (b .first) h) g
 
 module _ (a b : Range) {u : Bool} (e : u ≡ covers a b) where
   pub strictly-no : u ≡ false → false ≡ strictlyCovers a b
@@ -33,13 +36,6 @@ module _ (a b : Range) {u : Bool} (e : u ≡ covers a b) where
   unfolding strictlyInside
   inside-yes f g = strictly-yes f g
 
--- the tag first
-pub other-tag : (tag family : ℕ) (b : Bool) → (tag ≡ family → ⊥) → false ≡ (eqb tag family && b)
-other-tag tag family b n = rw (ne-eqb tag family n)
-
-pub same-tag : (tag family : ℕ) (b : Bool) {v : Bool} → tag ≡ family → v ≡ b → v ≡ (eqb tag family && b)
-same-tag tag family b e f = rw (eq-eqb tag family e) f
-
 module _ (strict : Bool) (r q : Range) {u : Bool} (e : u ≡ covers r q) where
   pub surrounds-no : u ≡ false → false ≡ surroundsBy strict r q
   surrounds-no f = go strict
@@ -54,6 +50,14 @@ module _ (strict : Bool) (r q : Range) {u : Bool} (e : u ≡ covers r q) where
   pub surrounds-yes : u ≡ true → strict ≡ false → true ≡ surroundsBy strict r q
   surrounds-yes f s = rw s (sym f ∙ e)
 
+-- not at most, by the other order
+pub not-leb : (x y : ℕ) {v : Bool} → v ≡ leb x y → not v ≡ ltb y x
+not-leb x y {v} g = go v g
+  where
+    go : (v : Bool) → v ≡ leb x y → not v ≡ ltb y x
+    go true h = sym (le-ltb y x (leb-true x y (sym h)))
+    go false h = sym (lt-ltb y x (leb-false x y (sym h)))
+
 -- strictly inside, and after the blocks that were kept
 module _ (n k : ℕ) (r q : Range) {u : Bool} (e : u ≡ strictlyInside r q) where
   pub keeps-no : u ≡ false → false ≡ keepsFrom (freeAfter n k) r q
@@ -63,11 +67,7 @@ module _ (n k : ℕ) (r q : Range) {u : Bool} (e : u ≡ strictlyInside r q) whe
   keeps-first f z = rw (sym e ∙ f, eq-eqb n 0 z) (sym (le-leb 0 (r .first) (omega arith)))
 
   pub keeps-later : u ≡ true → (n ≡ 0 → ⊥) → {v : Bool} → v ≡ leb (r .first) k → not v ≡ keepsFrom (freeAfter n k) r q
-  keeps-later f z {v} g = rw (sym e ∙ f, ne-eqb n 0 z) (go v g)
-    where
-      go : (v : Bool) → v ≡ leb (r .first) k → not v ≡ leb (suc k) (r .first)
-      go true h = let m = leb-true (r .first) k (sym h) in sym (lt-leb (suc k) (r .first) (omega arith))
-      go false h = let m = leb-false (r .first) k (sym h) in sym (le-leb (suc k) (r .first) (omega arith))
+  keeps-later f z g = rw (sym e ∙ f, ne-eqb n 0 z) (not-leb (r .first) k g)
 
 pub positive : (n : ℕ) → (n ≡ 0 → ⊥) → 0 < n
 positive zero f = absurd (f refl)

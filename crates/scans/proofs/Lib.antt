@@ -2,5 +2,5 @@ pub mod Numbers
 pub mod Cover
 pub mod Accepting
 pub mod Walks
-pub mod Passes
+pub mod Ends
 pub mod Turns

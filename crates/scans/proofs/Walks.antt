@@ -1,90 +1,140 @@
--- A walk over the records: the blocks of a family that are still to come.
-use Prim.Native.Nat.{ℕ, _+_, _*_, _≤_, _<_}
-use mathlib.Core.Bool.{Bool, true, false}
+-- A walk over the blocks of a run: those that are still to come, and the one that stands at a record number.
+use Prim.Native.Nat.{ℕ, zero, suc, _+_, _-_, _*_, _≤_, _<_}
 use mathlib.Core.Path.{_≡_, refl, sym, ap, _∙_}
-use mathlib.Core.List.{List, []}
+use mathlib.Core.List.{List, [], _∷_}
+use native.Mathlib.Nat.{add-zero}
 use native.Mathlib.Omega.{arith}
 use native.Mathlib.Numerals.{add-one}
-use borrow.Author.Tests.{eqb-true}
+use borrow.Author.Tests.{eq-eqb, ne-eqb}
 use lib.Dec.{T, eqb}
-use lib.ListN.{length, drop, drop-of-length-le}
+use lib.ListN.{length, drop, getD, drop-of-length-le}
 use lib.Seq.{slice}
 use Rattle.address.specs.Lists.{keep}
+use Rattle.address.specs.Ranges.{wellFormed}
 use Rattle.fields.specs.Slices.{take-slice, drop-slice}
 use Rattle.records.specs.Record.{widthOf, rangeOf}
 use Rattle.image.specs.Image.{imageOf}
 use Rattle.image.specs.Part.{recordsOf}
-use Rattle.image.specs.Entries.{EntryAt}
-use Rattle.image.specs.declared.Entry.{Entry}
+use Rattle.image.specs.Entries.{placeOf}
+use Rattle.image.specs.Index.{tagOf}
+use Rattle.image.specs.declared.Run.{Run}
+use Rattle.image.proofs.Soundness.{counted, few-records, few-bytes}
+use Rattle.image.proofs.Standing.{standing}
 use Rattle.blocks.specs.Blocks.{Block, blocksFrom}
-use Rattle.address.specs.Ranges.{wellFormed}
 use Rattle.blocks.specs.Defects.{accepted}
 use Rattle.blocks.proofs.Geometry.{proper}
+use Rattle.blocks.proofs.Laminar.{Laminar, cons, accepted-laminar}
 use Rattle.scans.specs.Standing.{blocksIn, rangeIn, between, Asked}
 use Rattle.scans.specs.Tests.{Comparable}
-use Rattle.image.proofs.Soundness.{counted, few-records}
 use Rattle.scans.proofs.Accepting.{blocks-accepted, low-family, wide-family}
 
 -- the blocks of a family from record i on
 abbrev pub blocksLeft : List ℕ → ℕ → ℕ → List Block
 blocksLeft s family i = blocksFrom family i (drop i (recordsOf (imageOf s)))
 
-pub left-all : (s : List ℕ) (family : ℕ) → blocksLeft s family 0 ≡ blocksIn s family
-unfolding blocksIn
-left-all s family = refl
+module _ (s : List ℕ) (family i : ℕ) (h : i < length (recordsOf (imageOf s))) where
+  left-next : blocksLeft s family i
+      ≡ keep (eqb (tagOf s i) family) (record { number = i; range = rangeOf (standing s i h .r) }) (blocksLeft s family (i + 1))
+  left-next = let x = standing s i h in ap (blocksFrom family i) (x .here) ∙ rw (x .tag, add-one i) refl
 
-pub left-none : (s : List ℕ) (family i : ℕ) → length (recordsOf (imageOf s)) ≤ i → blocksLeft s family i ≡ []
-left-none s family i h = rw (drop-of-length-le (recordsOf (imageOf s)) h)
+  left-other : (tagOf s i ≡ family → ⊥) → blocksLeft s family i ≡ blocksLeft s family (i + 1)
+  left-other n = left-next ∙ rw (ne-eqb (tagOf s i) family n) refl
 
-module _ (s : List ℕ) (family w i : ℕ) (low : family ≤ 18) (wide : w ≡ widthOf family) (e : Entry) (a : EntryAt s i e) where
-  -- where the range of a block of the family stands
-  pub range-fits : e .tag ≡ family → e .start + 3 + 2 * w ≤ length s
-  range-fits t = let h = a .range-inside (omega arith) in rw (t, ← wide) at h
+  module _ (t : tagOf s i ≡ family) (low : family ≤ 18) (w : ℕ) (wide : w ≡ widthOf family) where
+    range-fits : placeOf s i + 6 + 2 * w ≤ length s
+    range-fits = let k = standing s i h .range-inside (omega arith) in rw (t, ← wide) at k
 
-  range-here : e .tag ≡ family → rangeOf (a .r) ≡ rangeIn s (e .start + 3) w
-  range-here t =
-      let x : e .start + 3 + 2 * w ≡ e .start + 3 + w + w = omega arith in
-      let f : slice (e .start + 3) (e .start + 3 + w + w) s ≡ a .r .range = rw (t, ← wide, x) at (a .range (omega arith)) in
-      rw (← a .tag, t, ← wide, ← f, take-slice w (e .start + 3) (e .start + 3 + w + w) s (omega arith), drop-slice w (e .start + 3) (e .start + 3 + w + w) s)
+    range-here : rangeOf (standing s i h .r) ≡ rangeIn s (placeOf s i + 6) w
+    range-here =
+        let x = standing s i h in
+        let at = placeOf s i + 6 in
+        let d : at + 2 * w ≡ at + w + w = omega arith in
+        let f : slice at (at + w + w) s ≡ x .r .range = rw (t, ← wide, d) at (x .range (omega arith)) in
+        rw (← x .tag, t, ← wide, ← f, take-slice w at (at + w + w) s (omega arith), drop-slice w at (at + w + w) s)
 
-  pub left-next : blocksLeft s family i ≡ keep (eqb (e .tag) family) (record { number = i; range = rangeIn s (e .start + 3) w }) (blocksLeft s family (i + 1))
-  left-next =
-      ap (blocksFrom family i) (a .here)
-      ∙ ap (λ (n : ℕ). keep (eqb (a .r .tag) family) (record { number = i; range = rangeOf (a .r) }) (blocksFrom family n (drop (i + 1) (recordsOf (imageOf s))))) (sym (add-one i))
-      ∙ go (eqb (a .r .tag) family) refl
-      ∙ ap (λ (k : ℕ). keep (eqb k family) (record { number = i; range = rangeIn s (e .start + 3) w }) (blocksLeft s family (i + 1))) (sym (a .tag))
-    where
-      go : (t : Bool) → eqb (a .r .tag) family ≡ t
-          → keep t (record { number = i; range = rangeOf (a .r) }) (blocksLeft s family (i + 1))
-          ≡ keep t (record { number = i; range = rangeIn s (e .start + 3) w }) (blocksLeft s family (i + 1))
-      go true k = rw (range-here (a .tag ∙ eqb-true (a .r .tag) family k))
-      go false k = refl
+    left-block : blocksLeft s family i ≡ record { number = i; range = rangeIn s (placeOf s i + 6) w } ∷ blocksLeft s family (i + 1)
+    left-block = left-next ∙ rw (eq-eqb (tagOf s i) family t, range-here) refl
 
-module _ {s : List ℕ} {count family : ℕ} {first last : List ℕ} (q : Asked s count family first last) {i : ℕ} {e : Entry} (a : EntryAt s i e) where
-  pub comparable : e .tag ≡ family → Comparable s (e .start + 3) first last
-  comparable t =
-      record {
-        wide = rw (q .first-wide) (wide-family family);
-        same = q .last-wide ∙ sym (q .first-wide);
-        fits = range-fits s family (length first) i (low-family family (q .block)) (q .first-wide) e a t;
-      }
+module _ (s : List ℕ) (family : ℕ) where
+  -- no record before k is one of them
+  left-all : (k : ℕ) → k ≤ length (recordsOf (imageOf s)) → ((i : ℕ) → i < k → tagOf s i ≡ family → ⊥) → blocksLeft s family k ≡ blocksIn s family
+  unfolding blocksIn
+  left-all zero h n = refl
+  left-all (suc k) h n =
+      rw (← add-one k) (sym (left-other s family k (omega arith) (n k (omega arith)))) ∙ left-all k (omega arith) (λ i p. n i (omega arith))
 
-  pub next-left : blocksLeft s family i
-      ≡ keep (eqb (e .tag) family) (record { number = i; range = rangeIn s (e .start + 3) (length first) }) (blocksLeft s family (i + 1))
-  next-left = left-next s family (length first) i (low-family family (q .block)) (q .first-wide) e a
+  -- nor one from k on, of which there are d
+  left-none : (d k : ℕ) → d + k ≡ length (recordsOf (imageOf s))
+      → ((i : ℕ) → k ≤ i → i < length (recordsOf (imageOf s)) → tagOf s i ≡ family → ⊥) → blocksLeft s family k ≡ []
+  left-none zero k e n = let h : length (recordsOf (imageOf s)) ≤ k = omega arith in rw (drop-of-length-le (recordsOf (imageOf s)) h)
+  left-none (suc d) k e n = left-other s family k (omega arith) (n k (omega arith) (omega arith)) ∙ left-none d (k + 1) (omega arith) (λ i p. n i (omega arith))
 
-module _ {s : List ℕ} {count family : ℕ} {first last : List ℕ} (q : Asked s count family first last) where
-  pub in-range : (i : ℕ) → i < count → i < length (recordsOf (imageOf s))
-  in-range i h = omega (arith, counted (imageOf s) count (q .sound))
-
-  pub at-end : (i : ℕ) → count ≤ i → blocksLeft s family i ≡ []
-  at-end i h = left-none s family i (omega (arith, counted (imageOf s) count (q .sound)))
-
-  pub asked-accepted : T (accepted (blocksIn s family))
-  asked-accepted = blocks-accepted s count (q .sound) family (q .block)
+module _ {s places : List ℕ} {blocks : Run} {first last : List ℕ} (q : Asked s places blocks first last) where
+  pub asked-accepted : T (accepted (blocksIn s (blocks .first)))
+  asked-accepted = blocks-accepted s (q .selected .count) (q .selected .indexed .sound) (blocks .first) (q .block)
 
   pub asked-proper : T (wellFormed (between first last))
   asked-proper = proper (between first last) .1 (q .proper)
 
-  pub asked-few : count ≤ 4096
-  asked-few = few-records s count (q .sound)
+  pub asked-few : blocks .until ≤ 4096
+  asked-few = omega (arith, q .selected .run-of .ends, few-records s (q .selected .count) (q .selected .indexed .sound))
+
+  all-counted : length (recordsOf (imageOf s)) ≡ q .selected .count
+  all-counted = counted (imageOf s) (q .selected .count) (q .selected .indexed .sound)
+
+  pub run-start : blocksLeft s (blocks .first) (blocks .from) ≡ blocksIn s (blocks .first)
+  run-start =
+      let r = q .selected .run-of in
+      left-all s (blocks .first) (blocks .from) (omega (arith, r .forward, r .ends, all-counted)) (λ i h t. omega (arith, r .before i h))
+
+  pub run-end : (i : ℕ) → blocks .until ≤ i → i ≤ blocks .until → blocksLeft s (blocks .first) i ≡ []
+  run-end i h k =
+      let r = q .selected .run-of in
+      left-none s (blocks .first) (q .selected .count - i) i (omega (arith, r .ends, all-counted))
+      (λ j p l t. omega (arith, r .behind j (omega arith) (omega (arith, all-counted)), q .one))
+
+  -- at a record of the run
+  module _ {i : ℕ} (low : blocks .from ≤ i) (high : i < blocks .until) where
+    known : i < length (recordsOf (imageOf s))
+    known = omega (arith, q .selected .run-of .ends, all-counted)
+
+    tagged : tagOf s i ≡ blocks .first
+    tagged = omega (arith, q .selected .run-of .inside i low high, q .one)
+
+    place : getD places i 0 ≡ placeOf s i
+    place = q .selected .indexed .place i (omega (arith, q .selected .run-of .ends))
+
+    pub within : (i < 4096) × (getD places i 0 ≤ 262144)
+    within = (
+      omega (arith, asked-few),
+      omega (arith, place, standing s i known .within, few-bytes s (q .selected .count) (q .selected .indexed .sound)),
+    )
+
+    -- whose range starts at a position
+    module _ {at : ℕ} (e : at ≡ getD places i 0 + 6) where
+      starts : at ≡ placeOf s i + 6
+      starts = e ∙ ap (λ (p : ℕ). p + 6) place
+
+      pub comparable : Comparable s at first last
+      comparable =
+          record {
+            wide = rw (q .first-wide) (wide-family (blocks .first));
+            same = q .last-wide ∙ sym (q .first-wide);
+            fits = rw starts (range-fits s (blocks .first) i known tagged (low-family (blocks .first) (q .block)) (length first) (q .first-wide));
+          }
+
+      pub next-left : blocksLeft s (blocks .first) i ≡ record { number = i; range = rangeIn s at (length first) } ∷ blocksLeft s (blocks .first) (i + 1)
+      next-left = rw starts (left-block s (blocks .first) i known tagged (low-family (blocks .first) (q .block)) (length first) (q .first-wide))
+
+  -- the blocks from a record of the run on, and behind the last
+  pub run-laminar : {i : ℕ} → blocks .from ≤ i → i ≤ blocks .until → Laminar (blocksLeft s (blocks .first) i)
+  run-laminar {i} low high = let e : blocks .from + (i - blocks .from) ≡ i = omega arith in rw e at (go (i - blocks .from) (omega arith))
+    where
+      tail : {b : Block} {bs : List Block} → Laminar (b ∷ bs) → Laminar bs
+      tail (cons p f l) = l
+
+      go : (k : ℕ) → blocks .from + k ≤ blocks .until → Laminar (blocksLeft s (blocks .first) (blocks .from + k))
+      go zero h = rw (add-zero (blocks .from), run-start) (accepted-laminar (blocksIn s (blocks .first)) asked-accepted)
+      go (suc k) h =
+          let e : blocks .from + suc k ≡ blocks .from + k + 1 = omega arith in
+          rw e (tail (rw (next-left {i = blocks .from + k} (omega arith) (omega arith) refl) at (go k (omega arith))))

@@ -1,14 +1,15 @@
-// Lookup, up, top and down over a sound image, each by one pass over its records, and the tests on ranges that they use.
+// Lookup, up, top and down over a sound image, each by one pass over the records of a tag, which are sorted by their first address, and the tests on ranges that they use.
 ghost use mathlib.Core.Path.{_≡_};
-ghost use mathlib.Core.Bool.{_&&_};
 ghost use Prim.Native.Nat.{_+_, _*_, _≤_, _<_};
-ghost use lib.Dec.{leb, eqb};
-ghost use lib.ListN.{length};
+ghost use lib.Dec.{leb, ltb};
+ghost use lib.ListN.{length, getD};
+ghost use Rattle.address.specs.Number.{value};
 ghost use Rattle.address.specs.Ranges.{covers as «covers_of», strictlyInside};
 ghost use Rattle.blocks.specs.Relations.{top as «top_of», down as «down_of»};
 ghost use Rattle.scans.specs.Standing.{blocksIn, numberIn, rangeIn, between, Asked};
 ghost use Rattle.listing.specs.Listing.{Collected};
 ghost use Rattle.scans.specs.Tests.{Wide, Comparable, surroundsBy, freeAfter, keepsFrom, lastAround};
+use image::Run;
 
 // The order of two addresses or numbers of one width, each at a position of a slice.
 pub fn at_most(a: &[u8], x: usize, b: &[u8], y: usize, width: usize) -> bool
@@ -53,23 +54,21 @@ pub fn strictly_inside(image: &[u8], at: usize, first: &[u8], last: &[u8]) -> bo
     !covers(image, at, first, last)
 }
 
-// Whether a record of the tag, with the range at a position, is a block of the family around first to last, strictly or not.
-fn surrounds(
-    image: &[u8],
-    tag: u8,
-    at: usize,
-    family: u8,
-    first: &[u8],
-    last: &[u8],
-    strict: bool,
-) -> bool
-    requires { ⌜ (tag ≡ family → Comparable (now image) at (now first) (now last)) ⌝ }
-    ensures { λ r. ⌜ r ≡ (eqb tag family && surroundsBy strict (rangeIn (now (image .entry)) at (length (now (first .entry)))) (between (now (first .entry)) (now (last .entry)))) ⌝ }
+// Whether the range at a position begins after a bound.
+fn begins_after(image: &[u8], at: usize, bound: &[u8]) -> bool
+    requires { ⌜ Wide (length (now bound)) × (at + 2 * length (now bound) ≤ length (now image)) ⌝ }
+    ensures { λ r. ⌜ r ≡ ltb (value (now (bound .entry))) (numberIn (now (image .entry)) at (length (now (bound .entry)))) ⌝ }
 {
-    if tag != family {
-        return false;
-    }
-    if !covers(image, at, first, last) {
+    !at_most(image, at, bound, 0, bound.len())
+}
+
+// Whether the range at a position, which does not begin after first, is around first to last, strictly or not.
+fn surrounds(image: &[u8], at: usize, first: &[u8], last: &[u8], strict: bool) -> bool
+    requires { ⌜ Comparable (now image) at (now first) (now last) × (numberIn (now image) at (length (now first)) ≤ value (now first)) ⌝ }
+    ensures { λ r. ⌜ r ≡ surroundsBy strict (rangeIn (now (image .entry)) at (length (now (first .entry)))) (between (now (first .entry)) (now (last .entry))) ⌝ }
+{
+    let width = first.len();
+    if !at_most(last, 0, image, at + width, width) {
         return false;
     }
     if strict {
@@ -78,24 +77,12 @@ fn surrounds(
     true
 }
 
-// Whether it is a block of the family strictly inside first to last that begins after the last of the n blocks kept before it, whose range is at kept.
-fn keeps(
-    image: &[u8],
-    tag: u8,
-    at: usize,
-    family: u8,
-    first: &[u8],
-    last: &[u8],
-    n: usize,
-    kept: usize,
-) -> bool
-    requires { ⌜ (tag ≡ family → Comparable (now image) at (now first) (now last)) × (0 < n → kept + 2 * length (now first) ≤ length (now image)) ⌝ }
-    ensures { λ r. ⌜ r ≡ (eqb tag family && keepsFrom (freeAfter n (numberIn (now (image .entry)) (kept + length (now (first .entry))) (length (now (first .entry)))))
-        (rangeIn (now (image .entry)) at (length (now (first .entry)))) (between (now (first .entry)) (now (last .entry)))) ⌝ }
+// Whether it is strictly inside first to last and begins after the last of the n blocks kept before it, whose range is at kept.
+fn keeps(image: &[u8], at: usize, first: &[u8], last: &[u8], n: usize, kept: usize) -> bool
+    requires { ⌜ Comparable (now image) at (now first) (now last) × (0 < n → kept + 2 * length (now first) ≤ length (now image)) ⌝ }
+    ensures { λ r. ⌜ r ≡ keepsFrom (freeAfter n (numberIn (now (image .entry)) (kept + length (now (first .entry))) (length (now (first .entry)))))
+        (rangeIn (now (image .entry)) at (length (now (first .entry)))) (between (now (first .entry)) (now (last .entry))) ⌝ }
 {
-    if tag != family {
-        return false;
-    }
     if !strictly_inside(image, at, first, last) {
         return false;
     }
@@ -106,29 +93,38 @@ fn keeps(
     !at_most(image, at, image, kept + width, width)
 }
 
+// Where the range of a block starts, by its record number.
+pub fn range_start(places: &[u32; 4096], number: u32) -> usize
+    requires { ⌜ (number < 4096) × (getD (now places) number 0 ≤ 262144) ⌝ }
+    ensures { λ r. ⌜ r ≡ getD (now (places .entry)) number 0 + 6 ⌝ }
+{
+    places[number as usize] as usize + 6
+}
+
 // Lookup and up: the last block around first to last, strictly or not.
 pub fn last_around(
     image: &[u8],
-    count: u32,
-    family: u8,
+    places: &[u32; 4096],
+    blocks: Run,
     first: &[u8],
     last: &[u8],
     strict: bool,
     hits: &mut [u32; 4096],
 ) -> usize
-    requires { ⌜ Asked (now image) count family (now first) (now last) × (length (now hits) ≡ 4096) ⌝ }
-    ensures { λ r. ⌜ Collected (now (hits .exit)) (lastAround strict (blocksIn (now (image .entry)) family) (between (now (first .entry)) (now (last .entry)))) r ⌝ }
+    requires { ⌜ Asked (now image) (now places) blocks (now first) (now last) × (length (now hits) ≡ 4096) ⌝ }
+    ensures { λ r. ⌜ Collected (now (hits .exit)) (lastAround strict (blocksIn (now (image .entry)) (blocks .first)) (between (now (first .entry)) (now (last .entry)))) r ⌝ }
 {
     let mut n: usize = 0;
-    let mut at: usize = 4;
-    let mut i: u32 = 0;
-    while i < count {
-        let e = image::entry_at(image, i, at);
-        if surrounds(image, e.tag, e.start + 3, family, first, last, strict) {
+    let mut i = blocks.from;
+    while i < blocks.until {
+        let at = range_start(places, i);
+        if begins_after(image, at, first) {
+            return n;
+        }
+        if surrounds(image, at, first, last, strict) {
             hits[0] = i;
             n = 1;
         }
-        at = e.end;
         i += 1;
     }
     n
@@ -137,24 +133,25 @@ pub fn last_around(
 // Top: the first block strictly around first to last.
 pub fn first_around(
     image: &[u8],
-    count: u32,
-    family: u8,
+    places: &[u32; 4096],
+    blocks: Run,
     first: &[u8],
     last: &[u8],
     hits: &mut [u32; 4096],
 ) -> usize
-    requires { ⌜ Asked (now image) count family (now first) (now last) × (length (now hits) ≡ 4096) ⌝ }
-    ensures { λ r. ⌜ Collected (now (hits .exit)) («top_of» (blocksIn (now (image .entry)) family) (between (now (first .entry)) (now (last .entry)))) r ⌝ }
+    requires { ⌜ Asked (now image) (now places) blocks (now first) (now last) × (length (now hits) ≡ 4096) ⌝ }
+    ensures { λ r. ⌜ Collected (now (hits .exit)) («top_of» (blocksIn (now (image .entry)) (blocks .first)) (between (now (first .entry)) (now (last .entry)))) r ⌝ }
 {
-    let mut at: usize = 4;
-    let mut i: u32 = 0;
-    while i < count {
-        let e = image::entry_at(image, i, at);
-        if surrounds(image, e.tag, e.start + 3, family, first, last, true) {
+    let mut i = blocks.from;
+    while i < blocks.until {
+        let at = range_start(places, i);
+        if begins_after(image, at, first) {
+            return 0;
+        }
+        if surrounds(image, at, first, last, true) {
             hits[0] = i;
             return 1;
         }
-        at = e.end;
         i += 1;
     }
     0
@@ -163,28 +160,28 @@ pub fn first_around(
 // Down: the blocks strictly inside first to last, without those inside the last one kept.
 pub fn children(
     image: &[u8],
-    count: u32,
-    family: u8,
+    places: &[u32; 4096],
+    blocks: Run,
     first: &[u8],
     last: &[u8],
     hits: &mut [u32; 4096],
 ) -> usize
-    requires { ⌜ Asked (now image) count family (now first) (now last) × (length (now hits) ≡ 4096) ⌝ }
-    ensures { λ r. ⌜ Collected (now (hits .exit)) («down_of» (blocksIn (now (image .entry)) family) (between (now (first .entry)) (now (last .entry)))) r ⌝ }
+    requires { ⌜ Asked (now image) (now places) blocks (now first) (now last) × (length (now hits) ≡ 4096) ⌝ }
+    ensures { λ r. ⌜ Collected (now (hits .exit)) («down_of» (blocksIn (now (image .entry)) (blocks .first)) (between (now (first .entry)) (now (last .entry)))) r ⌝ }
 {
     let mut n: usize = 0;
     let mut kept: usize = 0;
-    let mut at: usize = 4;
-    let mut i: u32 = 0;
-    while i < count {
-        let e = image::entry_at(image, i, at);
-        let start = e.start + 3;
-        if keeps(image, e.tag, start, family, first, last, n, kept) {
+    let mut i = blocks.from;
+    while i < blocks.until {
+        let at = range_start(places, i);
+        if begins_after(image, at, last) {
+            return n;
+        }
+        if keeps(image, at, first, last, n, kept) {
             hits[n] = i;
             n += 1;
-            kept = start;
+            kept = at;
         }
-        at = e.end;
         i += 1;
     }
     n

@@ -1,13 +1,14 @@
--- A walk over the records: the test of the record at an entry, and what is still to be found.
-use Prim.Native.Nat.{ℕ, _+_, _-_, _≤_, _<_}
+-- A walk over the records of a run: the test of one record, and what is still to be found.
+use Prim.Native.Nat.{ℕ, zero, suc, _+_, _-_, _≤_, _<_}
 use mathlib.Core.Bool.{Bool, true, false, _&&_}
 use mathlib.Core.Path.{_≡_, refl, sym, subst, ap, _∙_}
-use mathlib.Core.List.{List, [], _∷_, _++_, append-nil}
+use mathlib.Core.List.{List, [], _++_, append-nil}
 use native.Mathlib.Numerals.{add-one}
+use native.Mathlib.Omega.{arith}
 use borrow.Author.Tests.{lt-leb, le-leb}
 use lib.Dec.{leb}
-use lib.ListN.{length, take, drop, drop-of-length-le}
-use Rattle.address.specs.Lists.{keep}
+use lib.ListN.{length, take, drop, getD, drop-of-length-le}
+use Rattle.address.specs.Lists.{within, keep}
 use Rattle.name.specs.declared.Text.{Text}
 use Rattle.name.specs.declared.Text.the-variants.{Handle, Name, Host}
 use Rattle.pattern.specs.Pattern.{matchesForm}
@@ -17,81 +18,23 @@ use Rattle.fields.specs.Slices.{part-slice}
 use Rattle.records.specs.Place.{bytesOf, Inside}
 use Rattle.records.specs.declared.Span.{Span}
 use Rattle.image.specs.Image.{imageOf}
+use Rattle.image.specs.Part.{recordsOf}
+use Rattle.image.specs.Entries.{placeOf}
+use Rattle.image.specs.Index.{tagOf, Standing, Selected}
+use Rattle.image.specs.declared.Run.{Run}
+use Rattle.image.proofs.Soundness.{counted, few-records, few-bytes}
+use Rattle.image.proofs.Standing.{standing-of, place-inside}
 use Rattle.listing.specs.Listing.{Reported}
 use Rattle.listing.specs.declared.Listed.{Listed}
-use Rattle.image.specs.Part.{recordsOf}
-use Rattle.image.specs.Entries.{EntryAt}
-use Rattle.image.specs.declared.Entry.{Entry}
 use Rattle.search.specs.Search.{numbersFrom, fieldOf}
-use Rattle.search.specs.Standing.{fieldSpan, picks, picksRecord}
-
--- the tests of the tag
-module _ (first last : ℕ) (fold : Bool) (form : Form) (pattern : List ℕ) (tag : ℕ) (text : List ℕ) where
-  pub below : tag < first → false ≡ picks first last fold form pattern tag text
-  below h = rw (lt-leb first tag h) refl
-
-  pub above : (tag < first → ⊥) → last < tag → false ≡ picks first last fold form pattern tag text
-  above n h = go (leb first tag)
-    where
-      go : (v : Bool) → false ≡ (v && leb tag last && matchesForm fold form pattern text)
-      go true = rw (lt-leb tag last h) refl
-      go false = refl
-
-  pub between : first ≤ tag → tag ≤ last → matchesForm fold form pattern text ≡ picks first last fold form pattern tag text
-  between h k = rw (le-leb first tag h, le-leb tag last k) refl
+use Rattle.search.specs.Standing.{fieldSpan, picksRecord}
 
 -- the test of the text, on a part of the image
 pub text-picked :
-    (first last : ℕ) (fold : Bool) (form : Form) (pattern : List ℕ) (tag : ℕ) (s : List ℕ) (x y : Span) → x ≡ y → x .start ≤ x .end
-    → first ≤ tag → tag ≤ last → {v : Bool} → v ≡ matchesForm fold form pattern (take (x .end - x .start) (drop (x .start) s))
-    → v ≡ picks first last fold form pattern tag (bytesOf s y)
-text-picked first last fold form pattern tag s x y e forward low high k =
+    (fold : Bool) (form : Form) (pattern s : List ℕ) (x y : Span) → x ≡ y → x .start ≤ x .end
+    → {v : Bool} → v ≡ matchesForm fold form pattern (take (x .end - x .start) (drop (x .start) s)) → v ≡ matchesForm fold form pattern (bytesOf s y)
+text-picked fold form pattern s x y e forward k =
     k ∙ ap (matchesForm fold form pattern) (part-slice (x .start) (x .end) s forward ∙ ap (bytesOf s) e)
-    ∙ between first last fold form pattern tag (bytesOf s y) low high
-
-module _ (s : List ℕ) (i : ℕ) (e : Entry) (a : EntryAt s i e) where
-  pub field-inside : (text : Text) → Inside (length s) (fieldSpan text s (e .tag) (e .start))
-  unfolding fieldSpan
-  field-inside Handle = a .handle-inside
-  field-inside Name = a .name-inside
-  field-inside Host = a .name-inside
-
-  field-here : (text : Text) → bytesOf s (fieldSpan text s (e .tag) (e .start)) ≡ fieldOf text (a .r)
-  unfolding fieldSpan fieldOf
-  field-here Handle = a .handle
-  field-here Name = a .name
-  field-here Host = a .name
-
-  numbers-next : (p : Record → Bool) → numbersFrom p i (drop i (recordsOf (imageOf s))) ≡ keep (p (a .r)) i (numbersFrom p (i + 1) (drop (i + 1) (recordsOf (imageOf s))))
-  numbers-next p =
-      ap (numbersFrom p i) (a .here) ∙ ap (λ (n : ℕ). keep (p (a .r)) i (numbersFrom p n (drop (i + 1) (recordsOf (imageOf s))))) (sym (add-one i))
-
-  module _ (first last : ℕ) (text : Text) (fold : Bool) (form : Form) (pattern : List ℕ) (v : Bool)
-      (test : v ≡ picks first last fold form pattern (e .tag) (bytesOf s (fieldSpan text s (e .tag) (e .start)))) where
-    test-here : v ≡ picksRecord first last text fold form pattern (a .r)
-    test-here = test ∙ rw (field-here text, a .tag) refl
-
-    pub found-here :
-        v ≡ true
-        → numbersFrom (picksRecord first last text fold form pattern) i (drop i (recordsOf (imageOf s)))
-        ≡ i ∷ numbersFrom (picksRecord first last text fold form pattern) (i + 1) (drop (i + 1) (recordsOf (imageOf s)))
-    found-here t =
-        numbers-next (picksRecord first last text fold form pattern)
-        ∙ ap (λ (b : Bool). keep b i (numbersFrom (picksRecord first last text fold form pattern) (i + 1) (drop (i + 1) (recordsOf (imageOf s))))) (sym test-here ∙ t)
-
-    pub not-here :
-        v ≡ false
-        → numbersFrom (picksRecord first last text fold form pattern) i (drop i (recordsOf (imageOf s)))
-        ≡ numbersFrom (picksRecord first last text fold form pattern) (i + 1) (drop (i + 1) (recordsOf (imageOf s)))
-    not-here t =
-        numbers-next (picksRecord first last text fold form pattern)
-        ∙ ap (λ (b : Bool). keep b i (numbersFrom (picksRecord first last text fold form pattern) (i + 1) (drop (i + 1) (recordsOf (imageOf s))))) (sym test-here ∙ t)
-
--- where no record is left, all is found
-pub all-found :
-    (p : Record → Bool) (i : ℕ) (records : List Record) {found whole : List ℕ} → length records ≤ i
-    → found ++ numbersFrom p i (drop i records) ≡ whole → found ≡ whole
-all-found p i records {found} h e = rw (drop-of-length-le records h, append-nil found) at e
 
 -- the case is folded or not, as another test says
 pub folded-as :
@@ -100,3 +43,90 @@ pub folded-as :
     → Reported (numbersFrom (picksRecord first last text v form pattern) 0 records) list after r
 folded-as first last text form pattern records {list} {after} {r} e p =
     subst (λ (fold : Bool). Reported (numbersFrom (picksRecord first last text fold form pattern) 0 records) list after r) e p
+
+module _ {s : List ℕ} {i : ℕ} (a : Standing s i) where
+  field-inside : (text : Text) → Inside (length s) (fieldSpan text s (tagOf s i) (placeOf s i + 3))
+  unfolding fieldSpan
+  field-inside Handle = a .handle-inside
+  field-inside Name = a .name-inside
+  field-inside Host = a .name-inside
+
+  field-here : (text : Text) → bytesOf s (fieldSpan text s (tagOf s i) (placeOf s i + 3)) ≡ fieldOf text (a .r)
+  unfolding fieldSpan fieldOf
+  field-here Handle = a .handle
+  field-here Name = a .name
+  field-here Host = a .name
+
+-- a record of the run, where the index says that it stands
+module _ {s places : List ℕ} {run : Run} (a : Selected s places run) where
+  pub few : run .until ≤ 4096
+  few = let h = few-records s (a .count) (a .indexed .sound) in omega (arith, a .run-of .ends)
+
+  module _ (i : ℕ) (h : i < run .until) where
+    known : i < a .count
+    known = omega (arith, a .run-of .ends)
+
+    stands : Standing s i
+    stands = standing-of s (a .count) (a .indexed .sound) i known
+
+    pub in-image : (getD places i 0 + 3 ≤ length s) × (length s ≤ 262144)
+    in-image = (place-inside s places (a .count) (a .indexed) i known, few-bytes s (a .count) (a .indexed .sound))
+
+    pub text-inside : (text : Text) → Inside (length s) (fieldSpan text s (getD s (getD places i 0) 0) (getD places i 0 + 3))
+    unfolding tagOf
+    text-inside text = rw (a .indexed .place i known) (field-inside stands text)
+
+    text-here : (text : Text) → bytesOf s (fieldSpan text s (getD s (getD places i 0) 0) (getD places i 0 + 3)) ≡ fieldOf text (stands .r)
+    unfolding tagOf
+    text-here text = rw (a .indexed .place i known) (field-here stands text)
+
+-- what is found from record i on
+abbrev pub foundFrom : List ℕ → Run → Text → Bool → Form → List ℕ → ℕ → List ℕ
+foundFrom s run text fold form pattern i = numbersFrom (picksRecord (run .first) (run .last) text fold form pattern) i (drop i (recordsOf (imageOf s)))
+
+module _ {s places : List ℕ} {run : Run} (a : Selected s places run) (text : Text) (fold : Bool) (form : Form) (pattern : List ℕ) where
+  abbrev from : ℕ → List ℕ
+  from i = foundFrom s run text fold form pattern i
+
+  next : (i : ℕ) (x : Standing s i) (v : Bool) → picksRecord (run .first) (run .last) text fold form pattern (x .r) ≡ v → from i ≡ keep v i (from (i + 1))
+  next i x v e = ap (numbersFrom (picksRecord (run .first) (run .last) text fold form pattern) i) (x .here) ∙ rw (e, add-one i)
+
+  -- a record of the run: the text decides
+  pub turn :
+      (i : ℕ) → run .from ≤ i → (h : i < run .until) {v : Bool}
+      → v ≡ matchesForm fold form pattern (bytesOf s (fieldSpan text s (getD s (getD places i 0) 0) (getD places i 0 + 3))) → from i ≡ keep v i (from (i + 1))
+  turn i k h {v} e =
+      let x = stands a i h in
+      let t = a .run-of .inside i k h in
+      next i x v (rw (← text-here a i h text, ← x .tag, le-leb (run .first) (tagOf s i) (t .0), le-leb (tagOf s i) (run .last) (t .1)) (sym e))
+
+  -- records of other tags are not picked
+  passed :
+      (n i k : ℕ) → i + n ≡ k → k ≤ a .count → ((j : ℕ) → i ≤ j → j < k → within (run .first) (run .last) (tagOf s j) ≡ false) → from i ≡ from k
+  passed zero i k e h others = let f : i ≡ k = omega arith in ap from f
+  passed (suc n) i k e h others =
+      let x = standing-of s (a .count) (a .indexed .sound) i (omega arith) in
+      let t : within (run .first) (run .last) (x .r .tag) ≡ false = rw (← x .tag) (others i (omega arith) (omega arith)) in
+      next i x false (rw t) ∙ passed n (i + 1) k (omega arith) h (λ j l. others j (omega arith))
+
+  pub before-run : from (run .from) ≡ from 0
+  before-run =
+      sym
+      (passed (run .from) 0 (run .from) (omega arith) (omega (arith, a .run-of .forward, a .run-of .ends))
+      (λ j l m. rw (lt-leb (run .first) (tagOf s j) (a .run-of .before j m))))
+
+  pub behind-run : from (run .until) ≡ []
+  behind-run =
+      let h = a .run-of .ends in
+      let c = counted (imageOf s) (a .count) (a .indexed .sound) in
+      passed (a .count - run .until) (run .until) (a .count) (omega arith) (omega arith)
+      (λ j l m. outside (leb (run .first) (tagOf s j)) (lt-leb (tagOf s j) (run .last) (a .run-of .behind j l m)))
+      ∙ rw (drop-of-length-le (recordsOf (imageOf s)) {i = a .count} (omega arith))
+    where
+      outside : (u : Bool) {v : Bool} → v ≡ false → (u && v) ≡ false
+      outside true e = e
+      outside false e = refl
+
+  -- behind the run all is found
+  pub all-found : (i : ℕ) {found whole : List ℕ} → i ≡ run .until → found ++ from i ≡ whole → found ≡ whole
+  all-found i {found} h e = rw (h, behind-run, append-nil found) at e

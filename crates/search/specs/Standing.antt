@@ -8,7 +8,7 @@ use Rattle.name.specs.declared.Text.the-variants.{Handle, Name, Host}
 use Rattle.pattern.specs.Pattern.{matchesForm}
 use Rattle.pattern.specs.declared.Form.{Form}
 use Rattle.records.specs.Record.{Record}
-use Rattle.records.specs.Place.{bytesOf, handleSpan, nameSpan, Inside}
+use Rattle.records.specs.Place.{handleSpan, nameSpan}
 use Rattle.records.specs.declared.Span.{Span}
 use Rattle.search.specs.Search.{fieldOf}
 
@@ -19,8 +19,5 @@ fieldSpan Name s tag start = nameSpan s tag start
 fieldSpan Host s tag start = nameSpan s tag start
 
 -- a tag from first to last, and a text that matches; fold says whether case is folded
-abbrev pub picks : ℕ → ℕ → Bool → Form → List ℕ → ℕ → List ℕ → Bool
-picks first last fold form pattern tag text = within first last tag && matchesForm fold form pattern text
-
 abbrev pub picksRecord : ℕ → ℕ → Text → Bool → Form → List ℕ → Record → Bool
-picksRecord first last text fold form pattern r = picks first last fold form pattern (r .tag) (fieldOf text r)
+picksRecord first last text fold form pattern r = within first last (r .tag) && matchesForm fold form pattern (fieldOf text r)

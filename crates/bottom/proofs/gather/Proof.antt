@@ -1,72 +1,48 @@
--- `bottom::gather` meets its contract: the blocks found so far are the first ones, and the rest of the walk gives the rest.
-use Prim.Native.Nat.{_-_, _≤_}
-use mathlib.Core.Logic.{⊎-elim}
-use mathlib.Core.Path.{_≡_}
+-- `bottom::gather` meets its contract: the starts stored so far are those of the first blocks.
+use Prim.Native.Nat.{ℕ, _+_, _-_, _≤_, _<_}
+use mathlib.Core.Path.{_≡_, _∙_}
 use native.Mathlib.Omega.{arith}
-use Rattle.image.specs.Image.{imageOf}
-use Rattle.image.specs.Entries.{placeOf, place-start}
-use Rattle.image.proofs.Soundness.{counted, few-records, few-bytes}
-use Rattle.bottom.proofs.Gathers.{Gathering, gather-start, gather-found, gather-missed, gather-end}
+use lib.ListN.{length, getD, length-set}
+use Rattle.bottom.proofs.Gathers.{start-more}
 use borrow.Author.Needs.{needs}
 use Rattle.bottom.proofs.gather.Statement.{statement}
 use Rattle.bottom.proofs.gather.Tie as tie
 
 abbrev Inv-loop : tie.InvT-loop
-Inv-loop image count family numbers₀ starts₀ n₀ at₀ i₀ numbers starts n at i =
-    (i ≤ count) × (at ≡ placeOf image i) × Gathering image family numbers starts n i
+Inv-loop places blocks starts₀ n₀ i₀ starts n i =
+    (blocks .from + n ≡ i)
+    × (i ≤ blocks .until)
+    × (length starts ≡ 4096)
+    × ((k : ℕ) → k < n → getD starts k 0 ≡ getD places (blocks .from + k) 0 + 6)
 
 abbrev μ-loop : tie.MeasureT-loop
-μ-loop image count family numbers₀ starts₀ n₀ at₀ i₀ numbers starts n at i = count - i
+μ-loop places blocks starts₀ n₀ i₀ starts n i = blocks .until - i
 
 loop-holds : tie.Need-loop-holds Inv-loop μ-loop
-loop-holds c = (omega arith, place-start (c .before .args .image .now), gather-start (c .before .args .image .now) (c .before .args .family) (c .before .args .numbers .now) (c .before .args .starts .now) (c .before .pre .2) (c .before .pre .3))
+loop-holds c =
+    let forward = c .pre .0 .forward in
+    (omega arith, omega arith, c .pre .1, λ k h. absurd (omega arith))
 
-entry-at-requires : tie.Need-entry-at-requires Inv-loop μ-loop
-entry-at-requires c κs = (omega (arith, counted (imageOf (c .before .before .before .args .image .now)) (c .before .before .before .args .count) (c .before .before .before .pre .0)), c .before .loop .inv .1)
-
-mul-numbers : tie.Need-mul-numbers Inv-loop μ-loop
-mul-numbers c =
-    let few = few-records (c .before .before .before .before .before .before .args .image .now) (c .before .before .before .before .before .before .args .count) (c .before .before .before .before .before .before .pre .0) in
-    let b = c .before .before .before .before .loop .inv .2 .below in
-    search needs
-
-element-write-numbers : tie.Need-element-write-numbers Inv-loop μ-loop
-element-write-numbers c =
-    let few = few-records (c .before .before .before .before .before .before .args .image .now) (c .before .before .before .before .before .before .args .count) (c .before .before .before .before .before .before .pre .0) in
-    let b = c .before .before .before .before .loop .inv .2 .below in
-    search needs
-
-add-starts : tie.Need-add-starts Inv-loop μ-loop
-add-starts c =
-    let few = few-bytes (c .before .before .before .before .before .before .before .args .image .now) (c .before .before .before .before .before .before .before .args .count) (c .before .before .before .before .before .before .before .pre .0) in
-    let b = c .before .before .before .entry-at .ensures .within in
-    let f = c .before .before .before .entry-at .ensures .forward in
-    search needs
+range-start-requires : tie.Need-range-start-requires Inv-loop μ-loop
+range-start-requires c κs =
+    let few = c .before .before .before .pre .0 .few in
+    let low = c .before .before .before .pre .0 .low (c .before .before .loop .i) (omega arith) (c .if1 .taken) in
+    (omega arith, low)
 
 cast-starts : tie.Need-cast-starts Inv-loop μ-loop
 cast-starts c =
-    let few = few-bytes (c .before .before .before .before .before .before .before .args .image .now) (c .before .before .before .before .before .before .before .args .count) (c .before .before .before .before .before .before .before .pre .0) in
-    let b = c .before .before .before .entry-at .ensures .within in
-    let f = c .before .before .before .entry-at .ensures .forward in
+    let few = c .before .before .before .before .pre .0 .few in
+    let low = c .before .before .before .before .pre .0 .low (c .before .before .before .loop .i) (omega arith) (c .before .if1 .taken) in
     search needs
 
 mul-starts : tie.Need-mul-starts Inv-loop μ-loop
-mul-starts c =
-    let few = few-records (c .before .before .before .before .before .before .before .args .image .now) (c .before .before .before .before .before .before .before .args .count) (c .before .before .before .before .before .before .before .pre .0) in
-    let b = c .before .before .before .before .before .loop .inv .2 .below in
-    search needs
+mul-starts c = let few = c .before .before .before .before .pre .0 .few in search needs
 
 element-write-starts : tie.Need-element-write-starts Inv-loop μ-loop
-element-write-starts c =
-    let few = few-records (c .before .before .before .before .before .before .before .args .image .now) (c .before .before .before .before .before .before .before .args .count) (c .before .before .before .before .before .before .before .pre .0) in
-    let b = c .before .before .before .before .before .loop .inv .2 .below in
-    search needs
+element-write-starts c = let few = c .before .before .before .before .pre .0 .few in search needs
 
 add-n : tie.Need-add-n Inv-loop μ-loop
-add-n c =
-    let few = few-records (c .before .before .before .before .before .before .before .args .image .now) (c .before .before .before .before .before .before .before .args .count) (c .before .before .before .before .before .before .before .pre .0) in
-    let b = c .before .before .before .before .before .loop .inv .2 .below in
-    search needs
+add-n c = let few = c .before .before .before .before .pre .0 .few in search needs
 
 add-i : tie.Need-add-i Inv-loop μ-loop
 add-i c = search needs
@@ -76,14 +52,17 @@ loop-less c = search needs
 
 loop-again : tie.Need-loop-again Inv-loop μ-loop
 loop-again c =
-    let few = few-records (c .before .before .before .before .before .before .args .image .now) (c .before .before .before .before .before .before .args .count) (c .before .before .before .before .before .before .pre .0) in
-    ⊎-elim
-    (λ w. (omega arith, c .before .before .entry-at .ensures .next, gather-found (c .before .before .before .before .before .before .pre .1) (c .before .before .before .before .loop .inv .2) (omega arith) (c .before .before .entry-at .ensures) (w .0 .taken) (w .2) (w .3) (w .4)))
-    (λ w. (omega arith, c .before .before .entry-at .ensures .next, gather-missed (c .before .before .before .before .before .before .pre .1) (c .before .before .before .before .loop .inv .2) (omega arith) (c .before .before .entry-at .ensures) (w .0 .left) (w .1) (w .2) (w .3)))
-    (c .if1 .came)
+    let l = c .before .before .before .loop in
+    let few = c .before .before .before .before .pre .0 .few in
+    let full = l .inv .2 in (
+      omega arith,
+      omega arith,
+      length-set (l .starts) (l .n) _ ∙ full,
+      start-more (c .before .before .before .before .args .places .now) (l .starts) (c .before .before .before .before .args .blocks .from) (l .n) (c .range-start .result) (omega arith) (rw (l .inv .0) (c .range-start .ensures)) (l .inv .3),
+    )
 
 returns : tie.Need-returns Inv-loop μ-loop
-returns c = gather-end (c .before .before .before .pre .0) (c .before .before .before .pre .1) (c .before .loop .inv .2) (c .loop-test .left) (c .before .loop .inv .0)
+returns c = record { counted = omega arith; start = c .before .before .loop .inv .3 }
 
 pub gather-spec : {M : Type 1} → statement M
 gather-spec =
@@ -92,10 +71,7 @@ gather-spec =
     Inv-loop
     μ-loop
     loop-holds
-    entry-at-requires
-    mul-numbers
-    element-write-numbers
-    add-starts
+    range-start-requires
     cast-starts
     mul-starts
     element-write-starts

@@ -2,11 +2,11 @@
 use Prim.Native.Nat.{_+_, _-_, _≤_}
 use mathlib.Core.Bool.{Bool}
 use mathlib.Core.Logic.{⊎-elim}
-use Rattle.blocks.specs.Blocks.{Block}
 use mathlib.Core.Path.{_≡_, refl, sym, _∙_}
 use mathlib.Core.List.{_++_, append-nil}
 use native.Mathlib.Omega.{arith}
 use lib.ListN.{length, take, drop}
+use Rattle.blocks.specs.Blocks.{Block}
 use Rattle.blocks.specs.Relations.{select}
 use Rattle.blocks.specs.Scans.{gapIn}
 use Rattle.scans.specs.Standing.{blocksIn, between}
@@ -17,7 +17,7 @@ use Rattle.bottom.proofs.holders.Statement.{statement}
 use Rattle.bottom.proofs.holders.Tie as tie
 
 abbrev Inv-loop : tie.InvT-loop
-Inv-loop image family numbers starts n first last hits₀ links m₀ i₀ hits m i =
+Inv-loop image family from starts n first last hits₀ links m₀ i₀ hits m i =
     (i ≤ n)
     × (m ≤ i)
     × (length hits ≡ 4096)
@@ -25,7 +25,7 @@ Inv-loop image family numbers starts n first last hits₀ links m₀ i₀ hits m
     ≡ select (λ b. gapIn (blocksIn image family) (between first last) (b .range)) (blocksIn image family))
 
 abbrev μ-loop : tie.MeasureT-loop
-μ-loop image family numbers starts n first last hits₀ links m₀ i₀ hits m i = n - i
+μ-loop image family from starts n first last hits₀ links m₀ i₀ hits m i = n - i
 
 links-of-requires : tie.Need-links-of-requires Inv-loop μ-loop
 links-of-requires c κs = c .before .before .before .pre .0
@@ -36,35 +36,23 @@ loop-holds c = (omega arith, omega arith, c .before .before .before .before .pre
 leaves-gap-requires : tie.Need-leaves-gap-requires Inv-loop μ-loop
 leaves-gap-requires c κs = record { gathered = c .before .before .before .before .before .before .before .pre .0; linked = c .before .before .before .links-of .ensures; known = c .before .loop-test .taken; first-wide = c .before .before .before .before .before .before .before .pre .2; last-wide = c .before .before .before .before .before .before .before .pre .3; proper = c .before .before .before .before .before .before .before .pre .4 }
 
+cast-hits : tie.Need-cast-hits Inv-loop μ-loop
+cast-hits c = let few = c .before .before .before .before .before .before .before .before .before .pre .0 .few in search needs
+
+add-hits : tie.Need-add-hits Inv-loop μ-loop
+add-hits c = let few = c .before .before .before .before .before .before .before .before .before .pre .1 .few in search needs
+
 mul-hits : tie.Need-mul-hits Inv-loop μ-loop
-mul-hits c =
-    let few = c .before .before .before .before .before .before .before .before .before .pre .0 .few in
-    search needs
-
-element-copy-out-hits : tie.Need-element-copy-out-hits Inv-loop μ-loop
-element-copy-out-hits c =
-    let few = c .before .before .before .before .before .before .before .before .before .pre .0 .few in
-    search needs
-
-mul-hits-2 : tie.Need-mul-hits-2 Inv-loop μ-loop
-mul-hits-2 c =
-    let few = c .before .before .before .before .before .before .before .before .before .before .pre .0 .few in
-    search needs
+mul-hits c = let few = c .before .before .before .before .before .before .before .before .before .pre .0 .few in search needs
 
 element-write-hits : tie.Need-element-write-hits Inv-loop μ-loop
-element-write-hits c =
-    let few = c .before .before .before .before .before .before .before .before .before .before .pre .0 .few in
-    search needs
+element-write-hits c = let few = c .before .before .before .before .before .before .before .before .before .pre .0 .few in search needs
 
 add-m : tie.Need-add-m Inv-loop μ-loop
-add-m c =
-    let few = c .before .before .before .before .before .before .before .before .before .before .pre .0 .few in
-    search needs
+add-m c = let few = c .before .before .before .before .before .before .before .before .before .pre .0 .few in search needs
 
 add-i : tie.Need-add-i Inv-loop μ-loop
-add-i c =
-    let few = c .before .before .before .before .before .before .before .before .before .pre .0 .few in
-    search needs
+add-i c = let few = c .before .before .before .before .before .before .before .before .before .pre .0 .few in search needs
 
 loop-less : tie.Need-loop-less Inv-loop μ-loop
 loop-less c = search needs
@@ -75,9 +63,9 @@ loop-again c =
     let l = c .before .before .before .before .loop in
     ⊎-elim
     (λ w.
-    let r = pick (c .before .before .before .before .before .before .before .before .before .pre .0) (c .before .before .before .before .loop .i) (c .before .before .before .loop-test .taken) (λ b. gapIn (blocksIn (c .before .before .before .before .before .before .before .before .before .args .image .now) (c .before .before .before .before .before .before .before .before .before .args .family)) (between (c .before .before .before .before .before .before .before .before .before .args .first .now) (c .before .before .before .before .before .before .before .before .before .args .last .now)) (b .range)) (c .before .leaves-gap .ensures) (l .hits) (l .m) (l .inv .2) (l .inv .3) (w .0 .taken) (omega arith) (c .before .before .before .before .before .before .before .before .before .args .numbers .now) (c .before .before .before .before .before .before .before .before .before .pre .1 (c .before .before .before .before .loop .i) (c .before .before .before .loop-test .taken)) (w .2) (w .3) in
+    let r = pick (c .before .before .before .before .before .before .before .before .before .pre .0) (l .i) (c .before .before .before .loop-test .taken) (λ b. gapIn (blocksIn (c .before .before .before .before .before .before .before .before .before .args .image .now) (c .before .before .before .before .before .before .before .before .before .args .family)) (between (c .before .before .before .before .before .before .before .before .before .args .first .now) (c .before .before .before .before .before .before .before .before .before .args .last .now)) (b .range)) (c .before .leaves-gap .ensures) (l .hits) (l .m) (l .inv .2) (l .inv .3) (w .0 .taken) (omega arith) (c .before .before .before .before .before .before .before .before .before .args .from + l .i) (c .before .before .before .before .before .before .before .before .before .pre .1 .number (l .i) (c .before .before .before .loop-test .taken)) (w .1) (w .2) in
     (omega arith, omega arith, r .0, r .1))
-    (λ w. let r = pass (c .before .before .before .before .before .before .before .before .before .pre .0) (c .before .before .before .before .loop .i) (c .before .before .before .loop-test .taken) (λ b. gapIn (blocksIn (c .before .before .before .before .before .before .before .before .before .args .image .now) (c .before .before .before .before .before .before .before .before .before .args .family)) (between (c .before .before .before .before .before .before .before .before .before .args .first .now) (c .before .before .before .before .before .before .before .before .before .args .last .now)) (b .range)) (c .before .leaves-gap .ensures) (l .hits) (l .m) (l .inv .2) (l .inv .3) (w .0 .left) (w .1) (w .2) in (omega arith, omega arith, r .0, r .1))
+    (λ w. let r = pass (c .before .before .before .before .before .before .before .before .before .pre .0) (l .i) (c .before .before .before .loop-test .taken) (λ b. gapIn (blocksIn (c .before .before .before .before .before .before .before .before .before .args .image .now) (c .before .before .before .before .before .before .before .before .before .args .family)) (between (c .before .before .before .before .before .before .before .before .before .args .first .now) (c .before .before .before .before .before .before .before .before .before .args .last .now)) (b .range)) (c .before .leaves-gap .ensures) (l .hits) (l .m) (l .inv .2) (l .inv .3) (w .0 .left) (w .1) (w .2) in (omega arith, omega arith, r .0, r .1))
     (c .if1 .came)
 
 returns : tie.Need-returns Inv-loop μ-loop
@@ -101,9 +89,9 @@ holders-spec =
     links-of-requires
     loop-holds
     leaves-gap-requires
+    cast-hits
+    add-hits
     mul-hits
-    element-copy-out-hits
-    mul-hits-2
     element-write-hits
     add-m
     add-i

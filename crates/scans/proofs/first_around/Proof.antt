@@ -1,63 +1,65 @@
--- `scans::first_around` meets its contract: the pass over the rest of the records gives the answer.
+-- `scans::first_around` meets its contract: the pass over the rest of the run gives the answer.
 use Prim.Native.Nat.{_≤_, _-_}
-use mathlib.Core.Path.{_≡_, sym, _∙_}
 use mathlib.Core.Bool.{true}
+use mathlib.Core.Path.{_≡_, sym, _∙_}
 use native.Mathlib.Omega.{arith}
 use lib.ListN.{length, length-set}
-use Rattle.image.specs.Entries.{placeOf, place-start}
-use Rattle.blocks.specs.Scans.{firstPassing}
 use Rattle.blocks.specs.Relations.{top}
+use Rattle.blocks.specs.Scans.{firstPassing}
 use Rattle.blocks.proofs.Scans.{top-scan}
+use Rattle.listing.proofs.Emit.{only-one}
 use Rattle.scans.specs.Standing.{blocksIn, between}
 use Rattle.scans.specs.Tests.{surroundsBy}
-use Rattle.scans.proofs.Walks.{blocksLeft, left-all, comparable, in-range, at-end, asked-accepted, asked-proper}
-use Rattle.listing.proofs.Emit.{only-one}
-use Rattle.scans.proofs.Turns.{first-found, first-missed}
+use Rattle.scans.proofs.Walks.{blocksLeft, run-start, run-end, within, comparable, asked-accepted, asked-proper}
+use Rattle.scans.proofs.Turns.{first-stop, not-after, first-found, first-missed}
 use borrow.Author.Needs.{needs}
 use Rattle.scans.proofs.first_around.Statement.{statement}
 use Rattle.scans.proofs.first_around.Tie as tie
 
 abbrev Inv-loop : tie.InvT-loop
-Inv-loop image count family first last hits₀ at₀ i₀ hits at i =
-    (length hits ≡ 4096)
-    × (i ≤ count)
-    × (at ≡ placeOf image i)
-    × (firstPassing (λ b. surroundsBy true (b .range) (between first last)) (blocksLeft image family i)
-    ≡ top (blocksIn image family) (between first last))
+Inv-loop image places blocks first last hits₀ i₀ hits i =
+    (blocks .from ≤ i)
+    × (i ≤ blocks .until)
+    × (length hits ≡ 4096)
+    × (firstPassing (λ b. surroundsBy true (b .range) (between first last)) (blocksLeft image (blocks .first) i)
+    ≡ top (blocksIn image (blocks .first)) (between first last))
 
 abbrev μ-loop : tie.MeasureT-loop
-μ-loop image count family first last hits₀ at₀ i₀ hits at i = count - i
+μ-loop image places blocks first last hits₀ i₀ hits i = blocks .until - i
 
 loop-holds : tie.Need-loop-holds Inv-loop μ-loop
 loop-holds c =
-    let a = c .before .before .before .args in (
-      c .before .before .before .pre .1,
+    let a = c .before .before .before .args in
+    let q = c .before .before .before .pre .0 in (
       omega arith,
-      place-start (a .image .now),
-      rw (left-all (a .image .now) (a .family))
-          (sym (top-scan (blocksIn (a .image .now) (a .family)) (asked-accepted (c .before .before .before .pre .0)) (between (a .first .now) (a .last .now)) (asked-proper (c .before .before .before .pre .0)))),
+      q .selected .run-of .forward,
+      c .before .before .before .pre .1,
+      rw (run-start q) (sym (top-scan (blocksIn (a .image .now) (a .blocks .first)) (asked-accepted q) (between (a .first .now) (a .last .now)) (asked-proper q))),
     )
 
-entry-at-requires : tie.Need-entry-at-requires Inv-loop μ-loop
-entry-at-requires c κs = (in-range (c .before .before .before .before .before .pre .0) (c .before .loop .i) (c .loop-test .taken), c .before .loop .inv .2)
+range-start-requires : tie.Need-range-start-requires Inv-loop μ-loop
+range-start-requires c κs = within (c .before .before .before .before .before .before .pre .0) (c .before .before .loop .inv .0) (c .if1 .taken)
 
-add-surrounds : tie.Need-add-surrounds Inv-loop μ-loop
-add-surrounds c = search needs
+begins-after-requires : tie.Need-begins-after-requires Inv-loop μ-loop
+begins-after-requires c κs = let k = comparable (c .before .before .before .before .before .before .before .pre .0) (c .before .before .before .loop .inv .0) (c .before .if1 .taken) (c .range-start .ensures) in (k .wide, k .fits)
+
+returns : tie.Need-returns Inv-loop μ-loop
+returns c = let l = c .before .before .before .before .before .loop in record { full = l .inv .2; few = omega arith; same = sym (first-stop (c .before .before .before .before .before .before .before .before .before .pre .0) (c .before .before .before .before .before .loop .inv .0) (c .before .before .before .if1 .taken) (c .before .before .range-start .ensures) (c .before .begins-after .ensures) (c .if2 .taken) true) ∙ l .inv .3 }
 
 surrounds-requires : tie.Need-surrounds-requires Inv-loop μ-loop
-surrounds-requires c κs = comparable (c .before .before .before .before .before .before .before .pre .0) (c .before .entry-at .ensures)
+surrounds-requires c κs = not-after (c .before .before .before .before .before .before .before .before .before .pre .0) (c .before .before .before .before .before .loop .inv .0) (c .before .before .before .if1 .taken) (c .before .before .range-start .ensures) (c .before .begins-after .ensures) (c .if2 .left)
 
 element-write-hits : tie.Need-element-write-hits Inv-loop μ-loop
 element-write-hits c = search needs
 
-returns : tie.Need-returns Inv-loop μ-loop
-returns c =
-    let l = c .before .before .before .before .before .loop in
-    let z = l .inv .0 in
+returns-2 : tie.Need-returns-2 Inv-loop μ-loop
+returns-2 c =
+    let l = c .before .before .before .before .before .before .before .loop in
+    let z = l .inv .2 in
     record {
       full = length-set (l .hits) 0 (l .i) ∙ z;
       few = omega arith;
-      same = only-one (l .hits) (l .i) (omega arith) ∙ first-found (c .before .before .before .before .before .before .before .before .before .pre .0) (c .before .before .before .entry-at .ensures) true (c .before .surrounds .ensures) (c .if1 .taken) (l .inv .3);
+      same = only-one (l .hits) (l .i) (omega arith) ∙ first-found (c .before .before .before .before .before .before .before .before .before .before .before .pre .0) (c .before .before .before .before .before .before .before .loop .inv .0) (c .before .before .before .before .before .if1 .taken) (c .before .before .before .before .range-start .ensures) true (c .before .surrounds .ensures) (c .if3 .taken) (l .inv .3);
     }
 
 add-i : tie.Need-add-i Inv-loop μ-loop
@@ -67,17 +69,14 @@ loop-less : tie.Need-loop-less Inv-loop μ-loop
 loop-less c = search needs
 
 loop-again : tie.Need-loop-again Inv-loop μ-loop
-loop-again c = (
-  c .before .before .before .before .before .loop .inv .0,
-  omega arith,
-  c .before .before .before .entry-at .ensures .next,
-  first-missed (c .before .before .before .before .before .before .before .before .before .pre .0) (c .before .before .before .entry-at .ensures) true (c .before .surrounds .ensures) (c .if1 .left) (c .before .before .before .before .before .loop .inv .3),
-)
+loop-again c =
+    let l = c .before .before .before .before .before .before .before .loop in
+    (omega arith, omega arith, l .inv .2, first-missed (c .before .before .before .before .before .before .before .before .before .before .before .pre .0) (c .before .before .before .before .before .before .before .loop .inv .0) (c .before .before .before .before .before .if1 .taken) (c .before .before .before .before .range-start .ensures) true (c .before .surrounds .ensures) (c .if3 .left) (l .inv .3))
 
-returns-2 : tie.Need-returns-2 Inv-loop μ-loop
-returns-2 c =
-    let l = c .before .loop in
-    record { full = l .inv .0; few = omega arith; same = rw (at-end (c .before .before .before .before .before .pre .0) (l .i) (c .loop-test .left)) at (l .inv .3) }
+returns-3 : tie.Need-returns-3 Inv-loop μ-loop
+returns-3 c =
+    let l = c .before .before .loop in
+    record { full = l .inv .2; few = omega arith; same = rw (run-end (c .before .before .before .before .before .before .pre .0) (l .i) (c .if1 .left) (l .inv .1)) at (l .inv .3) }
 
 pub first-around-spec : {M : Type 1} → statement M
 first-around-spec =
@@ -86,12 +85,13 @@ first-around-spec =
     Inv-loop
     μ-loop
     loop-holds
-    entry-at-requires
-    add-surrounds
+    range-start-requires
+    begins-after-requires
+    returns
     surrounds-requires
     element-write-hits
-    returns
+    returns-2
     add-i
     loop-less
     loop-again
-    returns-2)
+    returns-3)

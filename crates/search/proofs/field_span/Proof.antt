@@ -3,10 +3,6 @@ use borrow.Author.Needs.{needs}
 use Rattle.search.specs.Standing.{fieldSpan}
 use Rattle.search.proofs.field_span.Statement.{statement}
 use Rattle.search.proofs.field_span.Tie as tie
-use Rattle.search.proofs.field_span.Reads as reads
-use Rattle.search.proofs.field_span.Lts as lts
-use Rattle.records.proofs.handle_span.Reads as handle-span-reads
-use Rattle.records.proofs.name_span.Reads as name-span-reads
 
 enum-told : tie.Need-enum-told
 enum-told c = search needs

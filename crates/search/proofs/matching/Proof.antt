@@ -21,7 +21,7 @@ returns : tie.Need-returns
 unfolding isMatch isOf
 returns c =
     let a = c .before .before .before .before .before .before .before .before .args in
-    folded-as (a .first) (a .last) (a .text) (a .form) (now (a .pattern)) (recordsOf (imageOf (now (a .image)))) (c .before .before .before .before .folds-case .ensures)
+    folded-as (a .run .first) (a .run .last) (a .text) (a .form) (now (a .pattern)) (recordsOf (imageOf (now (a .image)))) (c .before .before .before .before .folds-case .ensures)
     (c .before .before .list-picked .ensures)
 
 pub matching-spec : {M : Type 1} → statement M

@@ -1,0 +1,73 @@
+-- Every record of a sound image stands where it starts.
+use mathlib.Core.Path.{_≡_, sym, _∙_}
+use mathlib.Core.Bool.{true}
+use mathlib.Core.List.{List}
+use Prim.Native.Nat.{ℕ, _+_, _-_, _*_, _≤_, _<_}
+use native.Mathlib.Omega.{arith}
+use native.Mathlib.Nat.{le-trans}
+use borrow.Author.Tests.{le-leb}
+use lib.ListN.{length, take, drop, getD}
+use lib.Seq.{slice}
+use Rattle.address.specs.Address.{numbers, rangeAt, number-at}
+use Rattle.fields.specs.Heads.{field-tag}
+use Rattle.fields.specs.Slices.{take-slice, drop-slice, part-slice}
+use Rattle.records.specs.Record.{isBlock, widthOf, rangeFrom}
+use Rattle.records.proofs.Laid.{laid}
+use Rattle.image.specs.Image.{imageOf}
+use Rattle.image.specs.Part.{recordsOf}
+use Rattle.image.specs.Place.{verdictOf}
+use Rattle.image.specs.Entries.{placeOf}
+use Rattle.image.specs.Index.{tagOf, Standing, Indexed}
+use Rattle.image.specs.declared.Verdict.the-variants.{Sound}
+use Rattle.image.proofs.Soundness.{counted}
+use Rattle.image.proofs.Numbered.{stands-here}
+
+-- the range read at a position
+range-read : (s : List ℕ) (at w : ℕ) → numbers (rangeAt s at w) ≡ rangeFrom w (slice at (at + 2 * w) s)
+range-read s at w =
+    let a : at + w - at ≡ w = omega arith in
+    let b : at + 2 * w - (at + w) ≡ w = omega arith in
+    let x : take w (drop at s) ≡ slice at (at + w) s = rw a at (part-slice at (at + w) s (omega arith)) in
+    let y : take w (drop (at + w) s) ≡ slice (at + w) (at + 2 * w) s = rw b at (part-slice (at + w) (at + 2 * w) s (omega arith)) in
+    rw (number-at s at w, number-at s (at + w) w, x, y, take-slice w at (at + 2 * w) s (omega arith), drop-slice w at (at + 2 * w) s)
+
+block-of : (tag : ℕ) → 16 ≤ tag → tag ≤ 18 → isBlock tag ≡ true
+block-of tag h k = rw (le-leb 0x10 tag h, le-leb tag 0x12 k)
+
+pub standing : (s : List ℕ) (i : ℕ) → i < length (recordsOf (imageOf s)) → Standing s i
+unfolding tagOf
+standing s i h =
+    let x = stands-here s i h in
+    let l = laid s (x .tag) (x .start) (x .end) (x .r) (x .inside .forward) (x .inside .within) (x .accepted .parsed) in
+    let u : x .tag ≡ getD s (placeOf s i) 0 = field-tag s (placeOf s i) (length s) (x .tag) (x .start) (x .end) (x .field-here) in
+    let v : x .start ≡ placeOf s i + 3 = sym (x .inside .after) in
+    let w : placeOf s i + 3 + 3 ≡ placeOf s i + 6 = omega arith in
+    let block : x .tag ≤ 18 → isBlock (x .tag) ≡ true = block-of (x .tag) (x .accepted .low) in
+    record {
+      r = x .r;
+      here = x .listed;
+      tag = sym u ∙ sym (l .own-tag);
+      low = rw (← u) (x .accepted .low);
+      high = rw (← u) (x .accepted .high);
+      within = omega (arith, v, x .inside .forward, x .inside .within);
+      range-inside = rw (← u, ← w, ← v) (λ z. le-trans (l .range-inside (block z)) (x .inside .within));
+      range = rw (← u, ← w, ← v) (λ z. l .range (block z));
+      range-numbers = rw (← u, ← w, ← v) (λ z. range-read s (x .start + 3) (widthOf (x .tag)) ∙ rw (l .range (block z), l .own-tag));
+      handle = rw (← u, ← v) (l .handle);
+      handle-inside = rw (← u, ← v) (l .handle-inside);
+      name = rw (← u, ← v) (l .name);
+      name-inside = rw (← u, ← v) (l .name-inside);
+    }
+
+-- the same by the verdict
+pub standing-of : (s : List ℕ) (count : ℕ) → verdictOf (imageOf s) ≡ Sound count → (i : ℕ) → i < count → Standing s i
+standing-of s count v i h = standing s i (omega (arith, counted (imageOf s) count v))
+
+-- by the index: the place noted of a record holds its tag
+module _ (s places : List ℕ) (count : ℕ) (x : Indexed s count places) where
+  pub tag-here : (i : ℕ) → i < count → getD s (getD places i 0) 0 ≡ tagOf s i
+  unfolding tagOf
+  tag-here i h = rw (x .place i h)
+
+  pub place-inside : (i : ℕ) → i < count → getD places i 0 + 3 ≤ length s
+  place-inside i h = rw (x .place i h) (standing-of s count (x .sound) i h .within)

@@ -1,0 +1,93 @@
+-- The loop: the records before low have lower tags, those from high on have not (Halved in Tags.antt).
+use Prim.Native.Nat.{_+_, _-_, _/_, _≤_, _<_}
+use native.Mathlib.Omega.{arith}
+use lib.ListN.{length, getD}
+use denote.Ref.{now}
+use borrow.Author.Needs.{needs}
+use Rattle.image.proofs.Soundness.{few-records, few-bytes}
+use Rattle.image.proofs.Standing.{place-inside}
+use Rattle.image.proofs.Tags.{Halved, halve-none, halve-up, halve-down, halve-end}
+use Rattle.image.proofs.first_from.Statement.{statement}
+use Rattle.image.proofs.first_from.Tie as tie
+
+abbrev Inv-loop : tie.InvT-loop
+Inv-loop image places count tag low₀ high₀ low high = Halved image count tag low high
+
+abbrev μ-loop : tie.MeasureT-loop
+μ-loop image places count tag low₀ high₀ low high = high - low
+
+loop-holds : tie.Need-loop-holds Inv-loop μ-loop
+loop-holds c = halve-none _ _ _
+
+sub-i : tie.Need-sub-i Inv-loop μ-loop
+sub-i c = search needs
+
+add-i : tie.Need-add-i Inv-loop μ-loop
+add-i c = search needs
+
+cast-if1 : tie.Need-cast-if1 Inv-loop μ-loop
+cast-if1 c = search needs
+
+-- the record in the middle has a number, and its place is in the image
+numbered : (c : tie.In-loop Inv-loop μ-loop)
+    → c .before .loop .low + (c .before .loop .high - c .before .loop .low) / 2 < c .before .before .args .count
+numbered c = omega (arith, c .before .loop .inv .few, c .loop-test .taken)
+
+stands : (c : tie.In-loop Inv-loop μ-loop)
+    → getD (now (c .before .before .args .places)) (c .before .loop .low + (c .before .loop .high - c .before .loop .low) / 2) 0 + 3 ≤ length (now (c .before .before .args .image))
+stands c = place-inside _ _ _ (c .before .before .pre) _ (numbered c)
+
+mul-if1 : tie.Need-mul-if1 Inv-loop μ-loop
+mul-if1 c = omega (arith, numbered c)
+
+element-copy-out-if1 : tie.Need-element-copy-out-if1 Inv-loop μ-loop
+element-copy-out-if1 c = omega (arith, numbered c, few-records _ _ (c .before .before .pre .sound))
+
+cast-if1-2 : tie.Need-cast-if1-2 Inv-loop μ-loop
+cast-if1-2 c = omega (arith, stands (c .before), few-bytes _ _ (c .before .before .before .pre .sound))
+
+shared-slice-read-if1 : tie.Need-shared-slice-read-if1 Inv-loop μ-loop
+shared-slice-read-if1 c = omega (arith, stands (c .before .before))
+
+add-low : tie.Need-add-low Inv-loop μ-loop
+add-low c = search needs
+
+loop-less : tie.Need-loop-less Inv-loop μ-loop
+loop-less c = search needs
+
+loop-again : tie.Need-loop-again Inv-loop μ-loop
+loop-again c =
+    halve-up _ _ _ (c .before .before .before .before .before .pre) _ _ _ _ (c .before .before .before .before .loop .inv)
+    (omega arith) (omega (arith, c .before .before .before .loop-test .taken)) (c .if1 .taken)
+
+loop-less-2 : tie.Need-loop-less-2 Inv-loop μ-loop
+loop-less-2 c = search needs
+
+loop-again-2 : tie.Need-loop-again-2 Inv-loop μ-loop
+loop-again-2 c =
+    halve-down _ _ _ (c .before .before .before .before .before .pre) _ _ _ _ (c .before .before .before .before .loop .inv)
+    (omega arith) (omega (arith, c .before .before .before .loop-test .taken)) (c .if1 .left)
+
+returns : tie.Need-returns Inv-loop μ-loop
+returns c = halve-end _ _ _ _ _ (c .before .loop .inv) (c .loop-test .left)
+
+pub first-from-spec : {M : Type 1} → statement M
+first-from-spec =
+    tie.close
+    (tie.spec
+    Inv-loop
+    μ-loop
+    loop-holds
+    sub-i
+    add-i
+    cast-if1
+    mul-if1
+    element-copy-out-if1
+    cast-if1-2
+    shared-slice-read-if1
+    add-low
+    loop-less
+    loop-again
+    loop-less-2
+    loop-again-2
+    returns)

@@ -1,0 +1,67 @@
+-- The records of a sound image by their numbers, found by an index of where each starts.
+use mathlib.Core.Path.{_≡_}
+use mathlib.Core.List.{List, _∷_}
+use Prim.Native.Nat.{ℕ, _+_, _*_, _≤_, _<_}
+use lib.ListN.{length, drop, getD}
+use lib.Seq.{slice}
+use Rattle.address.specs.Address.{numbers, rangeAt}
+use Rattle.records.specs.Record.{Record, widthOf, rangeOf}
+use Rattle.records.specs.Place.{bytesOf, handleSpan, nameSpan, Inside}
+use Rattle.image.specs.Image.{imageOf}
+use Rattle.image.specs.Part.{recordsOf}
+use Rattle.image.specs.Entries.{placeOf}
+use Rattle.image.specs.Place.{verdictOf}
+use Rattle.image.specs.declared.Verdict.{Verdict}
+use Rattle.image.specs.declared.Verdict.the-variants.{Sound}
+use Rattle.image.specs.declared.Run.{Run}
+
+-- the tag of record i
+unfoldable pub tagOf : List ℕ → ℕ → ℕ
+tagOf s i = getD s (placeOf s i) 0
+
+-- What stands where record i starts. `r` is the record. Proved of every record of a sound image in proofs/Standing.antt.
+pub record Standing (s : List ℕ) (i : ℕ) : Type 0 where
+  pub r : Record
+  pub here : drop i (recordsOf (imageOf s)) ≡ r ∷ drop (i + 1) (recordsOf (imageOf s))
+  pub tag : tagOf s i ≡ r .tag
+  pub low : 16 ≤ tagOf s i
+  pub high : tagOf s i ≤ 21
+  pub within : placeOf s i + 3 ≤ length s
+  pub range-inside : tagOf s i ≤ 18 → placeOf s i + 6 + 2 * widthOf (tagOf s i) ≤ length s
+  pub range : tagOf s i ≤ 18 → slice (placeOf s i + 6) (placeOf s i + 6 + 2 * widthOf (tagOf s i)) s ≡ r .range
+  pub range-numbers : tagOf s i ≤ 18 → numbers (rangeAt s (placeOf s i + 6) (widthOf (tagOf s i))) ≡ rangeOf r
+  pub handle : bytesOf s (handleSpan s (tagOf s i) (placeOf s i + 3)) ≡ r .handle
+  pub handle-inside : Inside (length s) (handleSpan s (tagOf s i) (placeOf s i + 3))
+  pub name : bytesOf s (nameSpan s (tagOf s i) (placeOf s i + 3)) ≡ r .name
+  pub name-inside : Inside (length s) (nameSpan s (tagOf s i) (placeOf s i + 3))
+
+-- The image is sound and has so many records, and `places` says where each starts.
+pub record Indexed (s : List ℕ) (count : ℕ) (places : List ℕ) : Type 0 where
+  pub sound : verdictOf (imageOf s) ≡ Sound count
+  pub full : length places ≡ 4096
+  pub place : (i : ℕ) → i < count → getD places i 0 ≡ placeOf s i
+
+-- what the index promises: the verdict, and of a sound image where its records start
+pub record Indexing (s places : List ℕ) (r : Verdict) : Type 0 where
+  pub verdict : r ≡ verdictOf (imageOf s)
+  pub indexed : (count : ℕ) → r ≡ Sound count → Indexed s count places
+
+-- The first record whose tag is not below this one has the number r; if there is none, r is how many records there are.
+pub record FirstFrom (s : List ℕ) (count tag r : ℕ) : Type 0 where
+  pub few : r ≤ count
+  pub below : (i : ℕ) → i < r → tagOf s i < tag
+  pub above : (i : ℕ) → r ≤ i → i < count → tag ≤ tagOf s i
+
+-- The records of a sound image with a tag from first to last are those of the run.
+pub record RunOf (s : List ℕ) (count : ℕ) (run : Run) : Type 0 where
+  pub forward : run .from ≤ run .until
+  pub ends : run .until ≤ count
+  pub before : (i : ℕ) → i < run .from → tagOf s i < run .first
+  pub inside : (i : ℕ) → run .from ≤ i → i < run .until → (run .first ≤ tagOf s i) × (tagOf s i ≤ run .last)
+  pub behind : (i : ℕ) → run .until ≤ i → i < count → run .last < tagOf s i
+
+-- a run of an image with its index
+pub record Selected (s places : List ℕ) (run : Run) : Type 0 where
+  pub count : ℕ
+  pub indexed : Indexed s count places
+  pub run-of : RunOf s count run
