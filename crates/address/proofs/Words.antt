@@ -1,4 +1,4 @@
--- Digits read together: four at once, and the order of two lists by words of k digits.
+-- Digits read together: four at once, and two lists compared by words of k digits.
 use mathlib.Core.Path.{_≡_, refl, sym, _∙_}
 use mathlib.Core.Bool.{Bool, true, false}
 use mathlib.Core.List.{List}
@@ -6,7 +6,8 @@ use Prim.Native.Nat.{ℕ, zero, suc, _+_, _*_, _/_, _%_, _<_, _≤_}
 use borrow.Author.Tests.{le-leb, lt-leb, ltb-true, ltb-false}
 use native.Mathlib.Omega.{arith}
 use lib.Dec.{leb, ltb}
-use lib.ListN.{length, getD, drop}
+use lib.ListN.{length, getD, take, drop}
+use lib.Seq.{take-suc}
 use Rattle.address.specs.Number.{atMost, Bytes}
 use Rattle.address.specs.Words.{valueAt, low4Of, swap4Of}
 use Rattle.address.proofs.Compare as step
@@ -43,18 +44,32 @@ eight s at = rw (sum 0, sum 1, sum 2, sum 3) (omega arith)
     sum : (i : ℕ) → at + 4 + i ≡ at + (4 + i)
     sum i = omega arith
 
--- the order by words of k digits at i
+-- words of k digits at i
 module _ (x y : List ℕ) (b : Bytes x) (d : Bytes y) (i : ℕ) where
-  same-prefix : (k : ℕ) → i + k ≤ length x → i + k ≤ length y → valueAt x i k ≡ valueAt y i k → atMost (drop i x) (drop i y) ≡ atMost (drop (i + k) x) (drop (i + k) y)
+  -- words of one value: so are the words without the last digit, and the last digits are the same
+  last-digit : (k : ℕ) → i + suc k ≤ length x → i + suc k ≤ length y → valueAt x i (suc k) ≡ valueAt y i (suc k) → (valueAt x i k ≡ valueAt y i k) × (getD x (i + k) 0 ≡ getD y (i + k) 0)
   unfolding valueAt
+  last-digit k p q e =
+      let m : getD x (i + k) 0 < 256 = b (i + k) (omega arith) in
+      let n : getD y (i + k) 0 < 256 = d (i + k) (omega arith) in
+      (omega (arith, e), omega (arith, e))
+
+  -- lists that are the same up to i, and words of one value there
+  pub word-same : (k : ℕ) → i + k ≤ length x → i + k ≤ length y → take i x ≡ take i y → valueAt x i k ≡ valueAt y i k → take (i + k) x ≡ take (i + k) y
+  word-same zero p q f e = let z : i + 0 ≡ i = omega arith in rw z f
+  word-same (suc k) p q f e =
+      let g = last-digit k p q e in
+      let z : i + suc k ≡ suc (i + k) = omega arith in
+      rw (z, take-suc x (i + k) 0 (omega arith), take-suc y (i + k) 0 (omega arith), g .1, word-same k (omega arith) (omega arith) f (g .0))
+
+  same-prefix : (k : ℕ) → i + k ≤ length x → i + k ≤ length y → valueAt x i k ≡ valueAt y i k → atMost (drop i x) (drop i y) ≡ atMost (drop (i + k) x) (drop (i + k) y)
   same-prefix zero p q e = let z : i + 0 ≡ i = omega arith in rw z
   same-prefix (suc k) p q e =
-      same-prefix k (omega arith) (omega arith) (omega (arith, e, b (i + k) (omega arith), d (i + k) (omega arith)))
-      ∙ step.equal x y (i + k) (omega arith) (omega arith) (omega (arith, e, b (i + k) (omega arith), d (i + k) (omega arith))) (omega (arith, e, b (i + k) (omega arith), d (i + k) (omega arith)))
-      ∙ rw (next)
-    where
-      next : suc (i + k) ≡ i + suc k
-      next = omega arith
+      let g = last-digit k p q e in
+      let z : suc (i + k) ≡ i + suc k = omega arith in
+      same-prefix k (omega arith) (omega arith) (g .0)
+      ∙ step.equal x y (i + k) (omega arith) (omega arith) (omega (arith, g .1)) (omega (arith, g .1))
+      ∙ rw z
 
   below : (k : ℕ) → i + k ≤ length x → i + k ≤ length y → valueAt x i k < valueAt y i k → atMost (drop i x) (drop i y) ≡ true
   unfolding valueAt

@@ -1,4 +1,4 @@
--- Tests on the blocks where they stand in the image, and a turn of each pass over them.
+-- The blocks where they stand in the image, and a turn of the pass that lists those that pass a test.
 use Prim.Native.Nat.{ℕ, _+_, _≤_, _<_}
 use mathlib.Core.Bool.{Bool, true, false}
 use mathlib.Core.Path.{_≡_, sym, subst, _∙_}
@@ -8,13 +8,11 @@ use native.Mathlib.Numerals.{add-one}
 use lib.Dec.{T}
 use lib.ListN.{length, drop, getD, drop-of-length-le}
 use lib.Seq.{drop-cons}
-use Rattle.address.specs.Lists.{any}
-use Rattle.address.specs.Ranges.{Range, strictlyInside}
 use Rattle.records.specs.Record.{widthOf}
 use Rattle.blocks.specs.Blocks.{Block}
 use Rattle.blocks.specs.Relations.{select}
 use Rattle.blocks.proofs.Select.{select-kept, select-dropped}
-use Rattle.scans.specs.Standing.{blocksIn, rangeIn}
+use Rattle.scans.specs.Standing.{blocksIn}
 use Rattle.scans.specs.Tests.{Comparable}
 use Rattle.scans.proofs.Accepting.{wide-family}
 use Rattle.bottom.specs.Links.{absent, nth, Gathered}
@@ -30,18 +28,6 @@ module _ {s : List ℕ} {family : ℕ} {starts : List ℕ} {n : ℕ} (g : Gather
     pub comparable-at : {first last : List ℕ} → length first ≡ widthOf family → length last ≡ widthOf family → Comparable s (getD starts i 0) first last
     comparable-at e f = record { wide = rw e (wide-family family); same = f ∙ sym e; fits = rw e (g .fits i h) }
 
-    module _ (w : ℕ) (e : w ≡ widthOf family) (q : Range) {v : Bool} (t : v ≡ strictlyInside (rangeIn s (getD starts i 0) w) q) where
-      inside-here : v ≡ strictlyInside (nth (blocksIn s family) i .range) q
-      inside-here = rw (g .ranges i h, ← e) t
-
-      pub any-found : v ≡ true → {R : Bool} → any (λ b. strictlyInside (b .range) q) (drop i (blocksIn s family)) ≡ R → true ≡ R
-      any-found f inv = rw (one-left, sym inside-here ∙ f) at inv
-
-      pub any-next : v ≡ false → {R : Bool} → any (λ b. strictlyInside (b .range) q) (drop i (blocksIn s family)) ≡ R
-          → any (λ b. strictlyInside (b .range) q) (drop (i + 1) (blocksIn s family)) ≡ R
-      any-next f inv = rw (one-left, sym inside-here ∙ f) at inv
-
-    -- a pass that lists the blocks that pass a test
     module _ (f : Block → Bool) {v : Bool} (t : v ≡ f (nth (blocksIn s family) i)) where
       pub select-one : v ≡ true → select f (drop i (blocksIn s family)) ≡ nth (blocksIn s family) i .number ∷ select f (drop (i + 1) (blocksIn s family))
       select-one e = rw one-left (select-kept f (nth (blocksIn s family) i) (drop (i + 1) (blocksIn s family)) (subst T (sym (sym t ∙ e)) tt))

@@ -3,9 +3,8 @@ ghost use mathlib.Core.Path.{_≡_};
 ghost use Prim.Native.Nat.{suc, _+_, _*_, _≤_, _<_, max, min};
 ghost use lib.Dec.{leb, ltb};
 ghost use lib.ListN.{length};
-ghost use Rattle.address.specs.Lists.{any as «any_of»};
 ghost use Rattle.address.specs.Number.{value};
-ghost use Rattle.address.specs.Ranges.{overlaps as «overlaps_of», strictlyInside};
+ghost use Rattle.address.specs.Ranges.{overlaps as «overlaps_of»};
 ghost use Rattle.records.specs.Record.{widthOf};
 ghost use Rattle.blocks.specs.Relations.{select, bottom as «bottom_of»};
 ghost use Rattle.blocks.specs.Scans.{gapIn};
@@ -17,6 +16,7 @@ use address::word4;
 use address::word8;
 use image::Run;
 use records::width_of;
+use scans::any_inside;
 use scans::at_most;
 use scans::range_start;
 
@@ -195,28 +195,6 @@ fn leaves_gap(
     true
 }
 
-// Whether some block is strictly inside first to last.
-fn any_inside(
-    image: &[u8],
-    family: u8,
-    starts: &[u32; 4096],
-    n: usize,
-    first: &[u8],
-    last: &[u8],
-) -> bool
-    requires { ⌜ Gathered (now image) family (now starts) n × (length (now first) ≡ widthOf family) × (length (now last) ≡ widthOf family) ⌝ }
-    ensures { λ r. ⌜ r ≡ «any_of» (λ b. strictlyInside (b .range) (between (now (first .entry)) (now (last .entry)))) (blocksIn (now (image .entry)) family) ⌝ }
-{
-    let mut i: usize = 0;
-    while i < n {
-        if scans::strictly_inside(image, starts[i] as usize, first, last) {
-            return true;
-        }
-        i += 1;
-    }
-    false
-}
-
 // The record numbers of the blocks that are the smallest one holding some address of first to last. The first block has the number from.
 fn holders(
     image: &[u8],
@@ -257,11 +235,11 @@ pub fn bottom(
     requires { ⌜ Asked (now image) (now places) blocks (now first) (now last) × (length (now hits) ≡ 4096) ⌝ }
     ensures { λ r. ⌜ Collected (now (hits .exit)) («bottom_of» (blocksIn (now (image .entry)) (blocks .first)) (between (now (first .entry)) (now (last .entry)))) r ⌝ }
 {
-    let mut starts = [0u32; 4096];
-    let n = gather(places, blocks, &mut starts);
-    if !any_inside(image, blocks.first, &starts, n, first, last) {
+    if !any_inside(image, places, blocks, first, last) {
         return 0;
     }
+    let mut starts = [0u32; 4096];
+    let n = gather(places, blocks, &mut starts);
     holders(
         image,
         blocks.first,

@@ -4,9 +4,10 @@ use mathlib.Core.Bool.{Bool, true, false}
 use mathlib.Core.List.{List, [], _∷_}
 use Prim.Native.Nat.{ℕ, zero, suc, _+_, _≤_, _<_}
 use native.Mathlib.Omega.{arith}
+use borrow.Author.Tests.{eq-eqb}
 use native.Mathlib.Numerals.{add-one}
 use lib.Dec.{eqb}
-use lib.ListN.{length, getD, drop, drop-of-length-le}
+use lib.ListN.{length, getD, take, drop, drop-of-length-le}
 use lib.Seq.{drop-cons}
 use Rattle.pieces.proofs.Tests.{and-false}
 use Rattle.name.specs.Compare.{foldIf, alike}
@@ -35,3 +36,13 @@ module _ (f : Bool) (s t : List ℕ) (i : ℕ) where
   pub alike-end : length s ≤ i → length t ≤ i → alike f (drop i s) (drop i t) ≡ true
   unfolding alike
   alike-end h k = rw (drop-of-length-le s h, drop-of-length-le t k)
+
+-- a beginning that both share
+pub alike-after : (f : Bool) (s t : List ℕ) (i : ℕ) → i ≤ length s → i ≤ length t → take i s ≡ take i t → alike f (drop i s) (drop i t) ≡ alike f s t
+unfolding alike
+alike-after f s t zero h k e = refl
+alike-after f [] t (suc i) h k e = absurd (omega arith)
+alike-after f (c ∷ s) [] (suc i) h k e = absurd (omega arith)
+alike-after f (c ∷ s) (d ∷ t) (suc i) h k e =
+    let g : foldIf f c ≡ foldIf f d = ap (λ (l : List ℕ). foldIf f (getD l 0 0)) e in
+    rw (eq-eqb (foldIf f c) (foldIf f d) g) (alike-after f s t i (omega arith) (omega arith) (ap (drop 1) e))

@@ -7,7 +7,7 @@ ghost use mathlib.Core.Bool.{false, not, _&&_};
 ghost use mathlib.Core.List.{map};
 ghost use Prim.Native.Nat.{_+_, _-_, _*_, _≤_, _<_};
 ghost use lib.Dec.{eqb};
-ghost use lib.ListN.{length};
+ghost use lib.ListN.{length, take};
 ghost use Rattle.address.specs.Lists.{within, every};
 ghost use Rattle.name.specs.Texts.{goodText, goodHost, textByte};
 ghost use Rattle.name.specs.Host.{fold, withoutFinalDot};
@@ -311,6 +311,22 @@ fn same_byte(fold: bool, c: u8, d: u8) -> bool
     false
 }
 
+// How many bytes at the start of both are the same, in eights.
+fn same_eights(a: &[u8], b: &[u8]) -> usize
+    requires { ⌜ length (now a) ≡ length (now b) ⌝ }
+    ensures { λ r. ⌜ (r ≤ length (now (a .entry))) × (take r (now (a .entry)) ≡ take r (now (b .entry))) ⌝ }
+{
+    let n = a.len();
+    let mut i: usize = 0;
+    while 8 <= n - i {
+        if address::word8(a, i) != address::word8(b, i) {
+            return i;
+        }
+        i += 8;
+    }
+    i
+}
+
 // Whether a and b are the same bytes, after folding where fold says so. Most texts that differ do so in length, in the last byte
 // or in one of the first.
 pub fn same(fold: bool, a: &[u8], b: &[u8]) -> bool
@@ -326,7 +342,7 @@ pub fn same(fold: bool, a: &[u8], b: &[u8]) -> bool
     if !same_byte(fold, a[n - 1], b[n - 1]) {
         return false;
     }
-    let mut i: usize = 0;
+    let mut i = same_eights(a, b);
     while i < n {
         if !same_byte(fold, a[i], b[i]) {
             return false;

@@ -4,11 +4,11 @@ use mathlib.Core.Bool.{Bool, true, false}
 use mathlib.Core.Path.{_≡_, refl}
 use mathlib.Core.List.{List, [], _∷_, List·Memᴰ·head, List·Memᴰ·tail}
 use native.Mathlib.Omega.{arith}
-use Rattle.address.specs.Lists.{_∈_}
+use Rattle.address.specs.Lists.{_∈_, any}
 use Rattle.address.specs.Ranges.{Range, strictlyInside}
 use Rattle.blocks.specs.Blocks.{Block}
 use Rattle.blocks.specs.Scans.{downPass}
-use Rattle.blocks.proofs.Tests.{is-false, each}
+use Rattle.blocks.proofs.Tests.{is-false, each, any-yes}
 use Rattle.blocks.proofs.Geometry.{covers-iff, strictly-iff, inside-iff}
 use Rattle.blocks.proofs.Laminar.{Laminar, cons, Before, around, left, is-proper}
 use Rattle.blocks.proofs.Select.{None}
@@ -32,3 +32,6 @@ module _ (q : Range) {b : Block} {bs : List Block} (l : Laminar (b ∷ bs)) wher
 pub down-none : (q : Range) (free : ℕ) (bs : List Block) → None (λ c. strictlyInside (c .range) q) bs → downPass q free bs ≡ []
 down-none q free [] n = refl
 down-none q free (b ∷ bs) n = rw (is-false (strictlyInside (b .range) q) (n b (List·Memᴰ·head refl))) (down-none q free bs (λ c m. n c (List·Memᴰ·tail m)))
+
+pub any-none : (f : Block → Bool) (bs : List Block) → None f bs → any f bs ≡ false
+any-none f bs n = is-false (any f bs) (λ t. let r = any-yes f bs t in n (r .0) (r .1) (r .2))

@@ -7,8 +7,9 @@ use native.Mathlib.Omega.{arith}
 use borrow.Author.Tests.{ne-eqb, ltb-true, ltb-false}
 use lib.Dec.{T, ltb}
 use lib.ListN.{length, take, getD, set, length-set}
+use Rattle.address.specs.Lists.{any}
 use Rattle.address.specs.Number.{value}
-use Rattle.address.specs.Ranges.{Range, wellFormed}
+use Rattle.address.specs.Ranges.{Range, wellFormed, strictlyInside}
 use Rattle.image.specs.declared.Run.{Run}
 use Rattle.blocks.specs.Blocks.{Block}
 use Rattle.blocks.specs.Defects.{accepted}
@@ -19,7 +20,7 @@ use Rattle.blocks.proofs.Select.{None, first-none, last-none}
 use Rattle.scans.specs.Standing.{numberIn, rangeIn, between, Asked}
 use Rattle.scans.specs.Tests.{Comparable, surroundsBy, freeAfter, keepsFrom, lastAround}
 use Rattle.scans.proofs.Walks.{blocksLeft, comparable, next-left, run-laminar}
-use Rattle.scans.proofs.Ends.{none-around, none-inside, down-none}
+use Rattle.scans.proofs.Ends.{none-around, none-inside, down-none, any-none}
 use Rattle.listing.proofs.Emit.{only-one, one-more}
 
 -- lookup and up by one pass
@@ -49,11 +50,25 @@ module _ {s places : List ℕ} {blocks : Run} {first last : List ℕ} (q : Asked
     pub not-after : v ≡ false → Comparable s at first last × (numberIn s at (length first) ≤ value first)
     not-after f = (comparable q low high e, ltb-false _ _ (sym t ∙ f))
 
-  pub down-stop : {v : Bool} → v ≡ ltb (value last) (numberIn s at (length last)) → v ≡ true
-      → (free : ℕ) → downPass (between first last) free (blocksLeft s (blocks .first) i) ≡ []
-  down-stop t f free =
-      let h : value last < numberIn s at (length first) = rw (comparable q low high e .same) at (ltb-true (value last) (numberIn s at (length last)) (sym t ∙ f)) in
-      down-none (between first last) free (blocksLeft s (blocks .first) i) (rw (next-left q low high e) (none-inside (between first last) laminar h))
+  module _ {v : Bool} (t : v ≡ ltb (value last) (numberIn s at (length last))) (f : v ≡ true) where
+    outside : None (λ b. strictlyInside (b .range) (between first last)) (blocksLeft s (blocks .first) i)
+    outside =
+        let h : value last < numberIn s at (length first) = rw (comparable q low high e .same) at (ltb-true (value last) (numberIn s at (length last)) (sym t ∙ f)) in
+        rw (next-left q low high e) (none-inside (between first last) laminar h)
+
+    pub down-stop : (free : ℕ) → downPass (between first last) free (blocksLeft s (blocks .first) i) ≡ []
+    down-stop free = down-none (between first last) free (blocksLeft s (blocks .first) i) outside
+
+    pub any-stop : {R : Bool} → any (λ b. strictlyInside (b .range) (between first last)) (blocksLeft s (blocks .first) i) ≡ R → false ≡ R
+    any-stop inv = sym (any-none (λ b. strictlyInside (b .range) (between first last)) (blocksLeft s (blocks .first) i) outside) ∙ inv
+
+  module _ {v : Bool} (t : v ≡ strictlyInside (rangeIn s at (length first)) (between first last)) {R : Bool}
+      (inv : any (λ b. strictlyInside (b .range) (between first last)) (blocksLeft s (blocks .first) i) ≡ R) where
+    pub any-found : v ≡ true → true ≡ R
+    any-found f = rw (next-left q low high e, sym t ∙ f) at inv
+
+    pub any-missed : v ≡ false → any (λ b. strictlyInside (b .range) (between first last)) (blocksLeft s (blocks .first) (i + 1)) ≡ R
+    any-missed f = rw (next-left q low high e, sym t ∙ f) at inv
 
   module _ (strict : Bool) {v : Bool} (t : v ≡ surroundsBy strict (rangeIn s at (length first)) (between first last)) where
     test : Block → Bool

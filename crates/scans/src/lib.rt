@@ -1,8 +1,9 @@
-// Lookup, up, top and down over a sound image, each by one pass over the records of a tag, which are sorted by their first address, and the tests on ranges that they use.
+// Lookup, up, top and down over a sound image, and whether bottom has an answer, each by one pass over the records of a tag, which are sorted by their first address, and the tests on ranges that they use.
 ghost use mathlib.Core.Path.{_≡_};
 ghost use Prim.Native.Nat.{_+_, _*_, _≤_, _<_};
 ghost use lib.Dec.{leb, ltb};
 ghost use lib.ListN.{length, getD};
+ghost use Rattle.address.specs.Lists.{any as «any_of»};
 ghost use Rattle.address.specs.Number.{value};
 ghost use Rattle.address.specs.Ranges.{covers as «covers_of», strictlyInside};
 ghost use Rattle.blocks.specs.Relations.{top as «top_of», down as «down_of»};
@@ -44,7 +45,7 @@ fn inside(image: &[u8], at: usize, first: &[u8], last: &[u8]) -> bool
 }
 
 // Whether it lies inside and differs.
-pub fn strictly_inside(image: &[u8], at: usize, first: &[u8], last: &[u8]) -> bool
+fn strictly_inside(image: &[u8], at: usize, first: &[u8], last: &[u8]) -> bool
     requires { ⌜ Comparable (now image) at (now first) (now last) ⌝ }
     ensures { λ r. ⌜ r ≡ strictlyInside (rangeIn (now (image .entry)) at (length (now (first .entry)))) (between (now (first .entry)) (now (last .entry))) ⌝ }
 {
@@ -185,4 +186,29 @@ pub fn children(
         i += 1;
     }
     n
+}
+
+// Whether some block is strictly inside first to last.
+pub fn any_inside(
+    image: &[u8],
+    places: &[u32; 4096],
+    blocks: Run,
+    first: &[u8],
+    last: &[u8],
+) -> bool
+    requires { ⌜ Asked (now image) (now places) blocks (now first) (now last) ⌝ }
+    ensures { λ r. ⌜ r ≡ «any_of» (λ b. strictlyInside (b .range) (between (now (first .entry)) (now (last .entry)))) (blocksIn (now (image .entry)) (blocks .first)) ⌝ }
+{
+    let mut i = blocks.from;
+    while i < blocks.until {
+        let start = range_start(places, i);
+        if begins_after(image, start, last) {
+            return false;
+        }
+        if strictly_inside(image, start, first, last) {
+            return true;
+        }
+        i += 1;
+    }
+    false
 }

@@ -8,27 +8,27 @@ use Rattle.bottom.proofs.Picks.{bottom-some, bottom-none}
 use Rattle.bottom.proofs.bottom.Statement.{statement}
 use Rattle.bottom.proofs.bottom.Tie as tie
 
-gather-requires : tie.Need-gather-requires
-gather-requires c κs = (reachable (c .before .before .before .before .pre .0), refl)
-
 any-inside-requires : tie.Need-any-inside-requires
-any-inside-requires c κs = (gathered (c .before .before .before .before .before .before .pre .0) (c .before .gather .ensures), c .before .before .before .before .before .before .pre .0 .first-wide, c .before .before .before .before .before .before .pre .0 .last-wide)
+any-inside-requires c κs = c .before .before .before .pre .0
 
 returns : tie.Need-returns
 returns c =
-    let a = c .before .before .before .before .before .before .before .before .args in
-    bottom-none (blocksIn (a .image .now) (a .blocks .first)) (asked-accepted (c .before .before .before .before .before .before .before .before .pre .0)) (between (a .first .now) (a .last .now)) (c .before .any-inside .ensures) (not-true _ (c .if1 .taken)) (c .before .before .before .before .before .before .before .before .pre .1)
+    let a = c .before .before .before .before .before .args in
+    bottom-none (blocksIn (a .image .now) (a .blocks .first)) (asked-accepted (c .before .before .before .before .before .pre .0)) (between (a .first .now) (a .last .now)) (c .before .any-inside .ensures) (not-true _ (c .if1 .taken)) (c .before .before .before .before .before .pre .1)
+
+gather-requires : tie.Need-gather-requires
+gather-requires c κs = (reachable (c .before .before .before .before .before .before .pre .0), refl)
 
 holders-requires : tie.Need-holders-requires
 holders-requires c κs =
-    let q = c .before .before .before .before .before .before .before .before .before .before .pre .0 in
-    (gathered q (c .before .before .before .before .before .gather .ensures), numbered q (c .before .before .before .before .before .gather .ensures), q .first-wide, q .last-wide, q .proper, c .before .before .before .before .before .before .before .before .before .before .pre .1)
+    let q = c .before .before .before .before .before .before .before .before .before .pre .0 in
+    (gathered q (c .before .before .gather .ensures), numbered q (c .before .before .gather .ensures), q .first-wide, q .last-wide, q .proper, c .before .before .before .before .before .before .before .before .before .pre .1)
 
 returns-2 : tie.Need-returns-2
 returns-2 c =
-    let a = c .before .before .before .before .before .before .before .before .before .before .before .args in
-    bottom-some (blocksIn (a .image .now) (a .blocks .first)) (asked-accepted (c .before .before .before .before .before .before .before .before .before .before .before .pre .0)) (between (a .first .now) (a .last .now)) (c .before .before .before .before .any-inside .ensures) (not-false _ (c .before .before .before .if1 .left)) (c .holders .ensures)
+    let a = c .before .before .before .before .before .before .before .before .before .before .args in
+    bottom-some (blocksIn (a .image .now) (a .blocks .first)) (asked-accepted (c .before .before .before .before .before .before .before .before .before .before .pre .0)) (between (a .first .now) (a .last .now)) (c .before .before .before .before .before .before .any-inside .ensures) (not-false _ (c .before .before .before .before .before .if1 .left)) (c .holders .ensures)
 
 pub bottom-spec : {M : Type 1} → statement M
 bottom-spec =
-    tie.close (tie.spec gather-requires any-inside-requires returns holders-requires returns-2)
+    tie.close (tie.spec any-inside-requires returns gather-requires holders-requires returns-2)

@@ -7,7 +7,7 @@ use denote.Ref.{now}
 use borrow.Author.Tests.{not-true, not-false}
 use borrow.Author.Needs.{needs}
 use Rattle.name.specs.Compare.{alike}
-use Rattle.name.proofs.Alike.{alike-length, alike-not, alike-on, alike-end}
+use Rattle.name.proofs.Alike.{alike-length, alike-not, alike-on, alike-after, alike-end}
 use Rattle.name.proofs.same.Statement.{statement}
 use Rattle.name.proofs.same.Tie as tie
 
@@ -46,8 +46,14 @@ returns-3 c =
     let n = length (now (a .a)) in
     alike-not (a .fold) (now (a .a)) (now (a .b)) (n - 1) (omega arith) (omega arith) (sym (c .before .same-byte .ensures) ∙ not-true _ (c .if3 .taken))
 
+same-eights-requires : tie.Need-same-eights-requires Inv-loop μ-loop
+same-eights-requires c κs = search needs
+
 loop-holds : tie.Need-loop-holds Inv-loop μ-loop
-loop-holds c = (omega arith, refl, c .before .before .before .before .before .if1 .left, refl)
+loop-holds c =
+    let a = c .before .before .before .before .before .before .before .before .before .args in
+    let e = c .same-eights .ensures in
+    (e .0, refl, omega arith, alike-after (a .fold) (now (a .a)) (now (a .b)) (c .same-eights .result) (e .0) (omega arith) (e .1))
 
 shared-slice-read-same-byte-3 : tie.Need-shared-slice-read-same-byte-3 Inv-loop μ-loop
 shared-slice-read-same-byte-3 c = search needs
@@ -60,7 +66,7 @@ same-byte-requires-2 c κs = search needs
 
 returns-4 : tie.Need-returns-4 Inv-loop μ-loop
 returns-4 c =
-    let a = c .before .before .before .before .before .before .before .before .before .before .before .before .before .before .args in
+    let a = c .before .before .before .before .before .before .before .before .before .before .before .before .before .before .before .args in
     alike-not (a .fold) (now (a .a)) (now (a .b)) (c .before .before .before .before .before .loop .i) (omega arith) (omega arith) (sym (c .before .same-byte2 .ensures) ∙ not-true _ (c .if4 .taken))
 
 add-i : tie.Need-add-i Inv-loop μ-loop
@@ -71,12 +77,12 @@ loop-less c = search needs
 
 loop-again : tie.Need-loop-again Inv-loop μ-loop
 loop-again c =
-    let a = c .before .before .before .before .before .before .before .before .before .before .before .before .before .before .args in
+    let a = c .before .before .before .before .before .before .before .before .before .before .before .before .before .before .before .args in
     (omega arith, c .before .before .before .before .before .loop .inv .1, c .before .before .before .before .before .loop .inv .2, sym (alike-on (a .fold) (now (a .a)) (now (a .b)) (c .before .before .before .before .before .loop .i) (omega arith) (omega arith) (sym (c .before .same-byte2 .ensures) ∙ not-false _ (c .if4 .left))) ∙ c .before .before .before .before .before .loop .inv .3)
 
 returns-5 : tie.Need-returns-5 Inv-loop μ-loop
 returns-5 c =
-    let a = c .before .before .before .before .before .before .before .before .before .before .args in
+    let a = c .before .before .before .before .before .before .before .before .before .before .before .args in
     sym (alike-end (a .fold) (now (a .a)) (now (a .b)) (c .before .loop .i) (omega arith) (omega arith)) ∙ c .before .loop .inv .3
 
 pub same-spec : {M : Type 1} → statement M
@@ -93,6 +99,7 @@ same-spec =
     shared-slice-read-same-byte-2
     same-byte-requires
     returns-3
+    same-eights-requires
     loop-holds
     shared-slice-read-same-byte-3
     shared-slice-read-same-byte-4
