@@ -1,7 +1,7 @@
 -- The open blocks stand for all earlier ones: whatever comes later in the sorting overlaps one of the earlier blocks exactly
 -- if it overlaps one of the open ones, and it does so exactly if it sticks out of the innermost.
 use mathlib.Core.Path.{_≡_, refl, sym, _∙_}
-use mathlib.Core.Bool.{Bool, true, false, cond}
+use mathlib.Core.Bool.{Bool, true, false, cond, not}
 use mathlib.Core.List.{List, [], _∷_, map}
 use Prim.Native.Nat.{ℕ, _≤_}
 use borrow.Author.Tests.{leb-true, leb-false, not-false}
@@ -10,7 +10,6 @@ use lib.Dec.{leb}
 use Rattle.records.specs.Record.{Record, firstOf, lastOf, isBlock}
 use Rattle.records.specs.Judge.{crossesAny}
 use Rattle.records.proofs.Crossing.{crosses-ended, crosses-around, crosses-other, crosses-no-block, crosses-out}
-use Rattle.image.specs.Place.{stillOpen, sticksOut}
 
 -- all end at l or after it
 abbrev pub Above : ℕ → List Record → Type 0
@@ -30,6 +29,16 @@ above-less l m (e ∷ es) h a = (le-trans h (a .0), above-less l m es h (a .1))
 abbrev pub openAt : ℕ → List Record → List Record
 openAt first [] = []
 openAt first (e ∷ es) = cond (leb first (lastOf e)) (e ∷ es) (openAt first es)
+
+-- the same of their last addresses
+abbrev pub stillOpen : ℕ → List ℕ → List ℕ
+stillOpen first [] = []
+stillOpen first (l ∷ ls) = cond (leb first l) (l ∷ ls) (stillOpen first ls)
+
+-- whether the innermost ends before `last`
+abbrev pub sticksOut : ℕ → List ℕ → Bool
+sticksOut last [] = false
+sticksOut last (l ∷ ls) = not (leb last l)
 
 pub open-lasts : (first : ℕ) (es : List Record) → map lastOf (openAt first es) ≡ stillOpen first (map lastOf es)
 open-lasts first [] = refl
@@ -93,10 +102,10 @@ unfolding crossesAny
 other-tag tag bound [] r c h = refl
 other-tag tag bound (e ∷ es) r c h = rw (crosses-other e r (λ z. h (sym (c .0) ∙ z))) (other-tag tag bound es r (c .3) h)
 
-pub no-block : (es : List Record) (r : Record) → isBlock (r .tag) ≡ false → crossesAny es r ≡ false
+pub no-crossing : (es : List Record) (r : Record) → isBlock (r .tag) ≡ false → crossesAny es r ≡ false
 unfolding crossesAny
-no-block [] r h = refl
-no-block (e ∷ es) r h = rw (crosses-no-block e r h) (no-block es r h)
+no-crossing [] r h = refl
+no-crossing (e ∷ es) r h = rw (crosses-no-block e r h) (no-crossing es r h)
 
 -- the innermost that is still open ends after a block that does not stick out
 pub open-above : (last : ℕ) (es : List Record) (tag bound : ℕ) → Chain tag bound es → sticksOut last (map lastOf es) ≡ false → Above last es

@@ -1,65 +1,68 @@
--- The search for the place of a block among the open blocks.
-use mathlib.Core.Path.{_≡_, sym, _∙_, ap}
-use mathlib.Core.Bool.{Bool, true, false}
+-- The place of a range among the open blocks: as the code searches for it, and by the last addresses of those that are still open.
+use mathlib.Core.Path.{_≡_, refl, sym, _∙_, ap}
+use mathlib.Core.Bool.{Bool, true, false, cond}
 use mathlib.Core.List.{List, [], _∷_}
-use Prim.Native.Nat.{ℕ, suc, _+_, _-_, _*_, _≤_, _<_}
+use Prim.Native.Nat.{ℕ, zero, suc, _-_, _≤_, _<_}
 use native.Mathlib.Omega.{arith}
 use lib.Dec.{leb}
-use lib.ListN.{length, getD, take, drop}
-use lib.Seq.{slice}
-use Rattle.address.specs.Number.{value, atMost, Bytes}
-use Rattle.records.proofs.Order.{compared}
-use Rattle.image.specs.Place.{lastAt, openLasts, stillOpen, NestedIn}
-use Rattle.image.specs.declared.Nesting.the-variants.{Under, Overlapping}
+use Rattle.image.specs.Place.{rangeIn, openLast, nestOf}
+use Rattle.image.specs.declared.Place.{Place}
+use Rattle.image.specs.declared.Place.the-variants.{Under, Bad}
+use Rattle.image.proofs.Laminar.{stillOpen, sticksOut}
 
--- the blocks above d end before the block starts
-pub record Searched (s : List ℕ) (w start : ℕ) (stack : List ℕ) (depth width middle end d : ℕ) : Type 0 where
-  pub few : d ≤ depth
-  pub wide : width ≡ w
-  pub mid : middle ≡ start + w
-  pub fin : end ≡ start + w + w
-  pub left : stillOpen (value (slice start (start + w) s)) (openLasts s w stack d) ≡ stillOpen (value (slice start (start + w) s)) (openLasts s w stack depth)
-
-module _ (s : List ℕ) (w start : ℕ) (stack : List ℕ) (depth width middle end d : ℕ) (y : Bytes s)
-    (m : Searched s w start stack depth width middle end d) (inside : start + 2 * w ≤ length s) where
-  pub search-none : d ≤ 0 → NestedIn s w start stack depth (Under 0)
+-- the search goes down from the innermost
+module _ (s : List ℕ) (w start : ℕ) (stack : List ℕ) (depth d : ℕ) (m : nestOf s w start stack d ≡ nestOf s w start stack depth) where
+  pub search-none : d ≤ 0 → Under 0 ≡ nestOf s w start stack depth
   search-none h =
       let e : d ≡ 0 = omega arith in
-      let f : [] ≡ stillOpen (value (slice start (start + w) s)) (openLasts s w stack depth) = rw e at (m .left) in
-      (omega arith, f, rw (← f))
+      rw e at m
 
-  module _ (h : 0 < d) (top tm te : ℕ) (g : top ≡ getD stack (d - 1) 0) (tm-is : tm ≡ top + width) (te-is : te ≡ tm + width) (q : top + 2 * w ≤ length s) where
-    at-top : openLasts s w stack d ≡ lastAt s w top ∷ openLasts s w stack (d - 1)
-    at-top =
-        let e : d ≡ suc (d - 1) = omega arith in
-        ap (λ (n : ℕ). openLasts s w stack n) e ∙ ap (λ (t : ℕ). lastAt s w t ∷ openLasts s w stack (d - 1)) (sym g)
+  module _ (h : 0 < d) where
+    unfolded : cond (leb (rangeIn s w start .first) (openLast s w stack (d - 1)))
+        (cond (leb (rangeIn s w start .last) (openLast s w stack (d - 1))) (Under d) (Bad 7))
+        (nestOf s w start stack (d - 1)) ≡ nestOf s w start stack depth
+    unfolded =
+        let e : suc (d - 1) ≡ d = omega arith in
+        ap (λ (n : ℕ). cond (leb (rangeIn s w start .first) (openLast s w stack (d - 1)))
+        (cond (leb (rangeIn s w start .last) (openLast s w stack (d - 1))) (Under n) (Bad 7))
+        (nestOf s w start stack (d - 1))) (sym e) ∙ ap (λ (n : ℕ). nestOf s w start stack n) e ∙ m
 
-    test : (a b : ℕ) → a ≤ b → b ≤ length s → b - a ≡ w → (t : Bool) → t ≡ atMost (take (b - a) (drop a s)) (take (te - tm) (drop tm s))
-        → leb (value (slice a b s)) (lastAt s w top) ≡ t
-    test a b i j k t e =
-        let u : tm ≡ top + w = omega (arith, m .wide) in
-        let v : te ≡ top + w + w = omega (arith, m .wide) in
-        sym (e ∙ rw (u, v) (compared s a b (top + w) (top + w + w) y i (omega arith) j (omega arith) (omega arith)))
+    pub search-on : leb (rangeIn s w start .first) (openLast s w stack (d - 1)) ≡ false → nestOf s w start stack (d - 1) ≡ nestOf s w start stack depth
+    search-on e = rw e at unfolded
 
-    module _ (t : Bool) (e : t ≡ atMost (take (middle - start) (drop start s)) (take (te - tm) (drop tm s))) where
-      first : leb (value (slice start (start + w) s)) (lastAt s w top) ≡ t
-      first = rw (m .mid) at (test start middle (omega (arith, m .mid)) (omega (arith, m .mid)) (omega (arith, m .mid)) t e)
+    module _ (e : leb (rangeIn s w start .first) (openLast s w stack (d - 1)) ≡ true) where
+      pub search-under : leb (rangeIn s w start .last) (openLast s w stack (d - 1)) ≡ true → Under d ≡ nestOf s w start stack depth
+      search-under f = rw (e, f) at unfolded
 
-      pub search-on : t ≡ false → Searched s w start stack depth width middle end (d - 1)
-      search-on f =
-          let z : leb (value (slice start (start + w) s)) (lastAt s w top) ≡ false = first ∙ f in
-          record { few = omega (arith, m .few); wide = m .wide; mid = m .mid; fin = m .fin; left = (rw (at-top, z) at (m .left)) }
+      pub search-out : leb (rangeIn s w start .last) (openLast s w stack (d - 1)) ≡ false → Bad 7 ≡ nestOf s w start stack depth
+      search-out f = rw (e, f) at unfolded
 
-      module _ (f : t ≡ true) where
-        found : lastAt s w top ∷ openLasts s w stack (d - 1) ≡ stillOpen (value (slice start (start + w) s)) (openLasts s w stack depth)
-        found = let z : leb (value (slice start (start + w) s)) (lastAt s w top) ≡ true = first ∙ f in rw (at-top, z) at (m .left)
+-- the last addresses of the first open blocks, the innermost first
+abbrev pub openLasts : List ℕ → ℕ → List ℕ → ℕ → List ℕ
+openLasts s w stack zero = []
+openLasts s w stack (suc d) = openLast s w stack d ∷ openLasts s w stack d
 
-        module _ (u : Bool) (v : u ≡ atMost (take (end - middle) (drop middle s)) (take (te - tm) (drop tm s))) where
-          second : leb (lastAt s w start) (lastAt s w top) ≡ u
-          second = rw (m .mid, m .fin) at (test middle end (omega (arith, m .mid, m .fin)) (omega (arith, m .fin)) (omega (arith, m .mid, m .fin)) u v)
+-- of those, `left` are still open where the range starts
+abbrev pub Nested : List ℕ → ℕ → ℕ → List ℕ → ℕ → List ℕ → Place → Type 0
+Nested s w start stack depth left (Under d) = (d ≤ depth) × (openLasts s w stack d ≡ left) × (sticksOut (rangeIn s w start .last) left ≡ false)
+Nested s w start stack depth left (Bad defect) = (defect ≡ 7) × (sticksOut (rangeIn s w start .last) left ≡ true)
 
-          pub search-under : u ≡ true → NestedIn s w start stack depth (Under d)
-          search-under x = (m .few, at-top ∙ found, rw (← found, second, x))
+abbrev pub NestedIn : List ℕ → ℕ → ℕ → List ℕ → ℕ → Place → Type 0
+NestedIn s w start stack depth x = Nested s w start stack depth (stillOpen (rangeIn s w start .first) (openLasts s w stack depth)) x
 
-          pub search-out : u ≡ false → NestedIn s w start stack depth Overlapping
-          search-out x = rw (← found, second, x)
+module _ (s : List ℕ) (w start : ℕ) (stack : List ℕ) where
+  deeper : (d : ℕ) (left : List ℕ) (x : Place) → Nested s w start stack d left x → Nested s w start stack (suc d) left x
+  deeper d left (Under u) m = (omega (arith, m .0), m .1, m .2)
+  deeper d left (Bad defect) m = m
+
+  pub nested : (depth : ℕ) → NestedIn s w start stack depth (nestOf s w start stack depth)
+  nested zero = (omega arith, refl, refl)
+  nested (suc d) = by-tests (leb (rangeIn s w start .first) (openLast s w stack d)) (leb (rangeIn s w start .last) (openLast s w stack d)) refl (nested d)
+    where
+      by-tests : (t u : Bool) → leb (rangeIn s w start .last) (openLast s w stack d) ≡ u → NestedIn s w start stack d (nestOf s w start stack d)
+          → Nested s w start stack (suc d)
+          (cond t (openLast s w stack d ∷ openLasts s w stack d) (stillOpen (rangeIn s w start .first) (openLasts s w stack d)))
+          (cond t (cond u (Under (suc d)) (Bad 7)) (nestOf s w start stack d))
+      by-tests true true e n = (omega arith, refl, rw e)
+      by-tests true false e n = (refl, rw e)
+      by-tests false u e n = deeper d _ (nestOf s w start stack d) n

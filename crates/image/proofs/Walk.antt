@@ -1,86 +1,54 @@
 -- The walk over the records: what is known before each, and one step.
-use mathlib.Core.Path.{_≡_, refl, _∙_, ap}
+use mathlib.Core.Path.{_≡_, refl, sym, _∙_, ap}
 use mathlib.Core.Bool.{Bool, true, false, cond, false≢true}
 use mathlib.Core.List.{List, [], _∷_, reverse}
-use Prim.Native.Nat.{ℕ, zero, suc, _+_, _-_, _*_, _≤_, _<_}
+use Prim.Native.Nat.{ℕ, zero, suc, _+_, _-_, _≤_, _<_}
 use borrow.Author.Tests.{le-leb, lt-leb, ne-eqb, leb-true, eqb-true}
 use lib.Dec.{leb, eqb}
 use native.Mathlib.Omega.{arith}
 use native.Mathlib.Nat.{le-refl}
 use lib.ListN.{length, take, set, length-reverse, length-set}
 use lib.Seq.{slice, length-slice, take-length, slice-empty}
-use Rattle.fields.specs.Field.{Head, field, short, headOf}
-use Rattle.fields.specs.Place.{fieldAt, behind}
-use Rattle.records.specs.Record.{Record, Parsed, whole, malformed, isKnown, recordOf, widthOf, firstOf}
-use Rattle.records.specs.Judge.{Judged, bad, judgeParsed, judgeAlone, judgeOverlap, inOrder, crossesAny, good}
-use Rattle.records.specs.Place.{recordAt, previousOf, Placed}
-use Rattle.records.proofs.Accepted.{Accepted, alone-good, first-last, After, follows-after}
-use Rattle.image.specs.Image.{sound, defective, afterJudged, Next, refused, taken, nextOf, afterNext, imageFrom, imageOf, startsRight}
-use Rattle.image.specs.Place.{nextAlone, nextAt, ReadAt, Opened, Placing, verdictOf}
-use Rattle.image.proofs.Stacks.{Open, open-none, ranged, Pushed, step-overlap, step-push, place-depth}
-use Rattle.records.specs.declared.Parts.{Parts}
+use Rattle.fields.specs.Field.{headOf}
+use Rattle.fields.specs.Place.{fieldAt, FieldInside, behind}
+use Rattle.fields.specs.Heads.{field-inside}
+use Rattle.records.specs.Record.{Record, firstOf}
+use Rattle.records.specs.Judge.{Judged, bad, good, inOrder, crossesAny}
+use Rattle.records.specs.Layout.{layoutOf, recordOn, LaidOut}
+use Rattle.records.specs.declared.Layout.{Layout}
+use Rattle.records.proofs.Accepted.{first-last, After, follows-after}
+use Rattle.image.specs.Image.{sound, defective, refused, taken, afterJudged, nextOf, afterNext, imageFrom, imageOf, startsRight}
+use Rattle.image.specs.Place.{TakenAt, ReadAt, recordBefore, Coming, goodBlock, nestOn, placeOn, verdictOf}
 use Rattle.image.specs.declared.Reading.{Reading}
 use Rattle.image.specs.declared.Reading.the-variants.{Taken, Refused}
-use Rattle.image.specs.declared.Nesting.{Nesting}
-use Rattle.image.specs.declared.Nesting.the-variants.{Under, Overlapping}
+use Rattle.image.specs.declared.Place.{Place}
+use Rattle.image.specs.declared.Place.the-variants.{Under, Bad}
 use Rattle.image.specs.declared.Verdict.the-variants.{Sound, Defective}
+use Rattle.image.proofs.Readings.{read-head}
+use Rattle.image.proofs.Judged.{order-first, contents-on, judged-on}
+use Rattle.image.proofs.Stacks.{Open, open-none, Pushed, Stepped, stepped}
 
--- At a position, after `count` records, the last of which has the tag `before` and the parts `p`: what is left of the image decides,
+-- After `count` records, the last of which lies as `p` says, or has the tag 0 if there is none: what is left of the image decides,
 -- and the stack holds the open blocks.
-pub record Walked (s : List ℕ) (before : ℕ) (p : Parts) (stack : List ℕ) (depth count at : ℕ) : Type 0 where
+pub record Walked (s : List ℕ) (p : Layout) (stack : List ℕ) (depth count : ℕ) : Type 0 where
   pub earlier : List Record
   pub counted : length earlier ≡ count
   pub few : count ≤ 4096
-  pub inside : at ≤ length s
+  pub inside : p .end ≤ length s
   pub short-enough : length s ≤ 262144
-  pub prior : previousOf s before p ≡ take 1 earlier
-  pub placed : 0 < before → Placed before (length s) p
+  pub prior : recordBefore s p ≡ take 1 earlier
+  pub placed : 0 < p .tag → LaidOut (length s) p
   pub size : length stack ≡ 4096
   pub shallow : depth ≤ count
-  pub opened : Open s earlier before (firstOf (recordAt s before p)) stack depth
-  pub rest : imageFrom (4096 - count) earlier (slice at (length s) s) ≡ imageOf s
+  pub opened : Open s earlier (p .tag) (firstOf (recordOn s p)) stack depth
+  pub rest : imageFrom (4096 - count) earlier (slice (p .end) (length s) s) ≡ imageOf s
 
--- a record is judged by the one before it alone
-parsed-first : (earlier : List Record) (p : Parsed) → judgeParsed (take 1 earlier) p ≡ judgeParsed earlier p
-unfolding inOrder
-parsed-first earlier malformed = refl
-parsed-first [] (whole r) = refl
-parsed-first (e ∷ earlier) (whole r) = refl
-
-alone-first : (earlier : List Record) (h : Head) → nextAlone (take 1 earlier) h ≡ nextAlone earlier h
-unfolding judgeAlone
-alone-first earlier short = refl
-alone-first earlier (field tag contents rest) =
-    ap (λ (j : Judged). afterJudged (cond (isKnown tag) j (bad 3)) rest) (parsed-first earlier (recordOf tag contents))
-
-abbrev Taking : List Record → Record → Type 0
-Taking earlier r = (tag : ℕ) × (contents : List ℕ) × Accepted earlier tag contents r
-
--- a record that was taken is accepted
-taken-accepted : (earlier : List Record) (h : Head) (r : Record) (rest : List ℕ) → taken r rest ≡ nextAlone earlier h → Taking earlier r
-taken-accepted earlier short r rest e = let z : _≡_ {A = ℕ} 0 1 = cc in absurd (omega arith)
-taken-accepted earlier (field tag contents left) r rest e = by-judged (judgeAlone earlier tag contents) refl e
-  where
-    by-judged : (j : Judged) → judgeAlone earlier tag contents ≡ j → taken r rest ≡ afterJudged j left → Taking earlier r
-    by-judged (bad d) p k = let z : _≡_ {A = ℕ} 0 1 = cc in absurd (omega arith)
-    by-judged (good q) p k = let f : q ≡ r = cc in (tag, contents, alone-good earlier tag contents r (p ∙ ap good f))
-
--- the judgement on overlaps comes after the others
-abbrev checked : List Record → Next → Next
-checked earlier (refused defect) = refused defect
-checked earlier (taken r rest) = cond (crossesAny earlier r) (refused 7) (taken r rest)
-
-judge-checked : (earlier : List Record) (h : Head) → nextOf earlier h ≡ checked earlier (nextAlone earlier h)
-judge-checked earlier short = refl
-judge-checked earlier (field tag contents rest) = by-judged (judgeAlone earlier tag contents)
-  where
-    by-overlap : (r : Record) (t : Bool) → afterJudged (cond t (bad 7) (good r)) rest ≡ cond t (refused 7) (taken r rest)
-    by-overlap r true = refl
-    by-overlap r false = refl
-
-    by-judged : (j : Judged) → afterJudged (judgeOverlap earlier j) rest ≡ checked earlier (afterJudged j rest)
-    by-judged (bad d) = refl
-    by-judged (good r) = by-overlap r (crossesAny earlier r)
+-- the next record, which lies as `q` says, can be read
+pub record Reached (s : List ℕ) (p : Layout) (stack : List ℕ) (depth count : ℕ) (q : Layout) : Type 0 where
+  pub walked : Walked s p stack depth count
+  pub more : p .end < length s
+  pub few : count ≡ 4096 → ⊥
+  pub here : TakenAt s (p .end) q
 
 module _ (earlier : List Record) where
   from-end : (n : ℕ) → imageFrom n earlier [] ≡ sound (reverse earlier)
@@ -109,9 +77,10 @@ module _ (s : List ℕ) where
     unfolding imageOf
     walk-wrong e = rw (le-leb _ _ h, e)
 
-    pub walk-start : startsRight s ≡ true → 4 ≤ length s → (p : Parts) (stack : List ℕ) → length stack ≡ 4096 → Walked s 0 p stack 0 0 4
+    pub walk-start : startsRight s ≡ true → 4 ≤ length s → (stack : List ℕ) → length stack ≡ 4096
+        → Walked s (layoutOf 0 4 4 4) stack 0 0
     unfolding imageOf
-    walk-start e l p stack z = record {
+    walk-start e l stack z = record {
       earlier = [];
       counted = refl;
       few = omega arith;
@@ -125,85 +94,132 @@ module _ (s : List ℕ) where
       rest = rw (le-leb _ _ h, e, take-length s);
     }
 
-module _ (s : List ℕ) (before : ℕ) (p : Parts) (stack : List ℕ) (depth count at : ℕ) (w : Walked s before p stack depth count at) where
-  pub walk-end : length s ≤ at → Sound count ≡ verdictOf (imageOf s)
+module _ (s : List ℕ) (p : Layout) (stack : List ℕ) (depth count : ℕ) (w : Walked s p stack depth count) where
+  pub walk-end : length s ≤ p .end → Sound count ≡ verdictOf (imageOf s)
   walk-end h =
-      let e : at ≡ length s = omega (arith, w .inside) in
+      let e : p .end ≡ length s = omega (arith, w .inside) in
       let f : imageFrom (4096 - count) (w .earlier) [] ≡ imageOf s = rw (e, slice-empty (length s) s) at (w .rest) in
       rw (← f, from-end (w .earlier) (4096 - count), length-reverse, w .counted)
 
-  module _ (h : at < length s) where
-    some-left : 0 < length (slice at (length s) s)
-    some-left = rw (length-slice at (length s) s (le-refl _)) (omega arith)
+  module _ (h : p .end < length s) where
+    some-left : 0 < length (slice (p .end) (length s) s)
+    some-left = rw (length-slice (p .end) (length s) s (le-refl _)) (omega arith)
 
     pub walk-full : count ≡ 4096 → Defective 3 4096 ≡ verdictOf (imageOf s)
     walk-full e =
         let z : 4096 - count ≡ 0 = omega arith in
-        rw (← w .rest, z, from-full (w .earlier) (slice at (length s) s) some-left, w .counted, e)
+        rw (← w .rest, z, from-full (w .earlier) (slice (p .end) (length s) s) some-left, w .counted, e)
 
-    module _ (k : count ≡ 4096 → ⊥) (r : Reading) (m : ReadAt s before p at r) where
-      one-step : afterNext (w .earlier) (checked (w .earlier) (nextAt s r)) (λ x rest. imageFrom (4096 - (count + 1)) (x ∷ w .earlier) rest) ≡ imageOf s
+    module _ (k : count ≡ 4096 → ⊥) where
+      one-step : afterNext (w .earlier) (nextOf (w .earlier) (headOf (slice (p .end) (length s) s))) (λ x rest. imageFrom (4096 - (count + 1)) (x ∷ w .earlier) rest) ≡ imageOf s
       one-step =
           let z : 4096 - count ≡ suc (4096 - (count + 1)) = omega (arith, w .few, k) in
-          rw (m .same, w .prior, alone-first, ← judge-checked, ← from-next (w .earlier) (4096 - (count + 1)) (slice at (length s) s) some-left, ← z) (w .rest)
+          rw (← from-next (w .earlier) (4096 - (count + 1)) (slice (p .end) (length s) s) some-left, ← z) (w .rest)
 
-      pub walk-bad : (d : ℕ) → r ≡ Refused d → Defective d count ≡ verdictOf (imageOf s)
-      walk-bad d e = let f : defective d (length (w .earlier)) ≡ imageOf s = rw e at one-step in rw (← f, w .counted)
+      refused-here : (d : ℕ) → nextOf (w .earlier) (headOf (slice (p .end) (length s) s)) ≡ refused d → Defective d count ≡ verdictOf (imageOf s)
+      refused-here d e = let f : defective d (length (w .earlier)) ≡ imageOf s = rw e at one-step in rw (← f, w .counted)
 
-      module _ (tag : ℕ) (q : Parts) (to : ℕ) (e : r ≡ Taken tag q to) where
-        pub taken-placed : Placed tag (length s) q × (at < to) × (to ≤ length s) × (to ≡ behind (fieldAt s at (length s)) at)
-        taken-placed = rw e at (m .placed)
+      module _ (r : Reading) (m : ReadAt s (p .end) r) where
+        pub walk-refused : (d : ℕ) → r ≡ Refused d → Defective d count ≡ verdictOf (imageOf s)
+        walk-refused d e =
+            let f : ReadAt s (p .end) (Refused d) = rw e at m in
+            refused-here d (f (w .earlier))
 
-        accepted : Taking (previousOf s before p) (recordAt s tag q)
-        accepted =
-            let f : taken (recordAt s tag q) (slice to (length s) s) ≡ nextAlone (previousOf s before p) (headOf (slice at (length s) s)) = rw e at (m .same) in
-            taken-accepted (previousOf s before p) (headOf (slice at (length s) s)) (recordAt s tag q) (slice to (length s) s) f
+        pub walk-taken : (q : Layout) → r ≡ Taken q → Reached s p stack depth count q
+        walk-taken q e = record { walked = w; more = h; few = k; here = (rw e at m) }
 
-        after : After before (firstOf (recordAt s before p)) (recordAt s tag q)
-        unfolding inOrder
-        after = by-before (eqb before 0) refl (accepted .2 .ordered)
-          where
-            by-before : (t : Bool) → eqb before 0 ≡ t → inOrder (cond t [] (recordAt s before p ∷ [])) (recordAt s tag q) ≡ true
-                → After before (firstOf (recordAt s before p)) (recordAt s tag q)
-            by-before true x y =
-                let z : before ≡ 0 = eqb-true _ _ x in
-                record { tags = omega arith; firsts = λ u v. absurd (omega (arith, u, z, taken-placed .0 .known)) }
-            by-before false x y = follows-after (recordAt s before p) (recordAt s tag q) y
+module _ {s : List ℕ} {p : Layout} {stack : List ℕ} {depth count : ℕ} {q : Layout} (c : Reached s p stack depth count q) where
+  abbrev earlier : List Record
+  earlier = c .walked .earlier
 
-        pub place-asks : tag ≤ 18 → before ≡ tag
-            → (depth ≤ 4096) × (q .range .start + 2 * widthOf tag ≤ length s) × Opened s (widthOf tag) stack depth
-        place-asks b z =
-            (omega (arith, w .shallow, w .few), ranged s tag q (taken-placed .0) b, (rw z at (w .opened .opened (omega arith))))
+  pub field-here : FieldInside (p .end) (length s) (q .start) (q .end)
+  field-here = field-inside s (p .end) (length s) (q .tag) (q .start) (q .end) (c .walked .inside) (c .here .stands)
 
-        module _ (n : Nesting) (g : Placing s before tag (q .range .start) stack depth n) where
-          pub walk-overlap : n ≡ Overlapping → Defective 7 count ≡ verdictOf (imageOf s)
-          walk-overlap x =
-              let y : crossesAny (w .earlier) (recordAt s tag q) ≡ true = step-overlap s (w .earlier) before _ stack depth (w .opened) tag q
-              (taken-placed .0) after (first-last _ (accepted .2 .good-contents)) n g x in
-              let f : defective 7 (length (w .earlier)) ≡ imageOf s = rw (e, y) at one-step in
-              rw (← f, w .counted)
+  pub behind-here : q .end ≡ behind (fieldAt s (p .end) (length s)) (p .end)
+  behind-here = rw (c .here .stands)
 
-          module _ (u : ℕ) (x : n ≡ Under u) where
-            pub room : u < 4096
-            room = omega (arith, place-depth s before tag (q .range .start) stack depth n u g x, w .shallow, w .few, k)
+  pub coming : Coming s p q stack depth
+  coming = record {
+    laid = c .here .readable .placed;
+    earlier = c .walked .placed;
+    open-blocks = λ b z. (omega (arith, c .walked .shallow, c .walked .few), (rw z at (c .walked .opened .opened (omega arith))));
+  }
 
-            pub walk-good : Walked s tag q (set stack u (q .range .start)) (u + 1) (count + 1) to
-            walk-good =
-                let y : Pushed s (w .earlier) tag q (set stack u (q .range .start)) (u + 1) = step-push s (w .earlier) before _ stack depth (w .opened) tag q
-                (taken-placed .0) after (first-last _ (accepted .2 .good-contents)) n g u x (rw (w .size) room) in
-                record {
-                  earlier = recordAt s tag q ∷ w .earlier;
-                  counted = rw (w .counted) (omega arith);
-                  few = omega (arith, w .few, k);
-                  inside = taken-placed .2;
-                  short-enough = w .short-enough;
-                  prior = rw (ne-eqb tag 0 (λ z. omega (arith, taken-placed .0 .known, z)));
-                  placed = λ z. taken-placed .0;
-                  size = length-set stack u (q .range .start) ∙ w .size;
-                  shallow = omega (arith, place-depth s before tag (q .range .start) stack depth n u g x, w .shallow);
-                  opened = y .now-open;
-                  rest = (rw (e, y .clear) at one-step);
-                }
+  after : inOrder (recordBefore s p) (recordOn s q) ≡ true → After (p .tag) (firstOf (recordOn s p)) (recordOn s q)
+  unfolding inOrder
+  after f = by-before (eqb (p .tag) 0) refl f
+    where
+      by-before : (t : Bool) → eqb (p .tag) 0 ≡ t → inOrder (cond t [] (recordOn s p ∷ [])) (recordOn s q) ≡ true
+          → After (p .tag) (firstOf (recordOn s p)) (recordOn s q)
+      by-before true x y =
+          let z : p .tag ≡ 0 = eqb-true _ _ x in
+          record { tags = omega arith; firsts = λ u v. absurd (omega (arith, u, z, coming .laid .known)) }
+      by-before false x y = follows-after (recordOn s p) (recordOn s q) y
+
+  next-is : (t u v : Bool) → goodBlock (recordOn s q) ≡ t → inOrder (recordBefore s p) (recordOn s q) ≡ u → crossesAny earlier (recordOn s q) ≡ v
+      → nextOf earlier (headOf (slice (p .end) (length s) s))
+      ≡ afterJudged (cond t (cond u (cond v (bad 7) (good (recordOn s q))) (bad 6)) (bad 5)) (slice (q .end) (length s) s)
+  next-is t u v x y z =
+      let o : inOrder earlier (recordOn s q) ≡ u = sym (order-first earlier (recordOn s q)) ∙ sym (ap (λ (l : List Record). inOrder l (recordOn s q)) (c .walked .prior)) ∙ y in
+      rw (read-head s (p .end) (c .walked .inside) _ refl (q .tag) (q .start) (q .end) (c .here .stands))
+      (ap (λ (j : Judged). afterJudged j (slice (q .end) (length s) s)) (judged-on s q (c .here .readable) earlier t u v x o z))
+
+  -- what its place says of a record
+  abbrev Outcome : Place → Type 0
+  Outcome (Bad d) = nextOf earlier (headOf (slice (p .end) (length s) s)) ≡ refused d
+  Outcome (Under u) =
+      (nextOf earlier (headOf (slice (p .end) (length s) s)) ≡ taken (recordOn s q) (slice (q .end) (length s) s))
+      × (u ≤ depth) × Pushed s earlier q (set stack u (q .start + 3)) (u + 1)
+
+  module _ (x : goodBlock (recordOn s q) ≡ true) (y : inOrder (recordBefore s p) (recordOn s q) ≡ true) where
+    by-place : (n : Place) → Stepped s earlier (p .tag) (firstOf (recordOn s p)) stack depth (c .walked .opened) q (coming .laid) (after y) n → Outcome n
+    by-place (Under u) g =
+        let z = g .1 (omega (arith, g .0, c .walked .shallow, c .walked .few, c .walked .size, c .few)) in
+        (next-is true true false x y (z .clear), g .0, z)
+    by-place (Bad d) g = rw (g .0) (next-is true true true x y (g .1))
+
+    no-defect : Outcome (nestOn s p q stack depth)
+    no-defect =
+        by-place (nestOn s p q stack depth) (stepped s earlier (p .tag) (firstOf (recordOn s p)) stack depth (c .walked .opened) q (coming .laid) (after y)
+        (first-last (recordOn s q) (contents-on s q (c .here .readable) ∙ x)))
+
+  outcome : Outcome (placeOn s p q stack depth)
+  unfolding placeOn
+  outcome = by-tests (goodBlock (recordOn s q)) (inOrder (recordBefore s p) (recordOn s q)) refl refl
+    where
+      by-tests : (t u : Bool) → goodBlock (recordOn s q) ≡ t → inOrder (recordBefore s p) (recordOn s q) ≡ u
+          → Outcome (cond t (cond u (nestOn s p q stack depth) (Bad 6)) (Bad 5))
+      by-tests true true x y = no-defect x y
+      by-tests true false x y = next-is true false _ x y refl
+      by-tests false u x y = next-is false u _ x y refl
+
+  module _ (n : Place) (g : n ≡ placeOn s p q stack depth) where
+    pub walk-bad : (d : ℕ) → n ≡ Bad d → Defective d count ≡ verdictOf (imageOf s)
+    walk-bad d f =
+        let o : Outcome (Bad d) = rw (← g, f) at outcome in
+        refused-here s p stack depth count (c .walked) (c .more) (c .few) d o
+
+    module _ (u : ℕ) (f : n ≡ Under u) where
+      under : Outcome (Under u)
+      under = rw (← g, f) at outcome
+
+      pub room : u < 4096
+      room = omega (arith, under .1, c .walked .shallow, c .walked .few, c .few)
+
+      pub walk-good : Walked s q (set stack u (q .start + 3)) (u + 1) (count + 1)
+      walk-good = record {
+        earlier = recordOn s q ∷ earlier;
+        counted = rw (c .walked .counted) (omega arith);
+        few = omega (arith, c .walked .few, c .few);
+        inside = field-here .within;
+        short-enough = c .walked .short-enough;
+        prior = rw (ne-eqb (q .tag) 0 (λ z. omega (arith, coming .laid .known, z)));
+        placed = λ z. coming .laid;
+        size = length-set stack u (q .start + 3) ∙ c .walked .size;
+        shallow = omega (arith, under .1, c .walked .shallow);
+        opened = under .2 .now-open;
+        rest = (rw (under .0) at (one-step s p stack depth count (c .walked) (c .more) (c .few)));
+      }
 
 pub start-length : (s : List ℕ) → startsRight s ≡ true → 4 ≤ length s
 unfolding startsRight

@@ -3,7 +3,8 @@ use Rattle.records.specs.Computing as Records
 use Rattle.image.specs.Image.{imageFrom, startsRight, imageOf}
 use Rattle.image.specs.Entries.{placeOf, spanOf}
 use Rattle.image.specs.Index.{tagOf}
+use Rattle.image.specs.Place.{placeOn}
 
 unfoldable pub computing : Unit {0}
-unfolding Records.computing imageFrom startsRight imageOf placeOf spanOf tagOf
+unfolding Records.computing imageFrom startsRight imageOf placeOf spanOf tagOf placeOn
 computing = tt

@@ -1,23 +1,26 @@
 -- What the code of the check answers, in positions of the image.
-use mathlib.Core.Bool.{Bool, true, false, cond, not}
+use mathlib.Core.Bool.{Bool, cond, _&&_}
 use mathlib.Core.Path.{_≡_}
-use mathlib.Core.List.{List, [], _∷_}
+use mathlib.Core.List.{List}
 use Prim.Native.Nat.{ℕ, zero, suc, _+_, _*_, _≤_, _<_}
-use lib.Dec.{leb}
+use lib.Dec.{leb, eqb}
 use lib.ListN.{length, getD}
 use lib.Seq.{slice}
 use Rattle.address.specs.Number.{value}
-use Rattle.fields.specs.Field.{Head, field, short, headOf}
-use Rattle.fields.specs.Place.{fieldAt, behind}
-use Rattle.records.specs.Record.{Record, widthOf}
-use Rattle.records.specs.Judge.{judgeAlone}
-use Rattle.records.specs.Place.{recordAt, previousOf, Placed}
-use Rattle.records.specs.declared.Parts.{Parts}
-use Rattle.image.specs.Image.{Image, sound, defective, Next, refused, taken, afterJudged}
+use Rattle.address.specs.Ranges.{Range, wellFormed}
+use Rattle.fields.specs.Field.{headOf}
+use Rattle.fields.specs.Place.{fieldAt}
+use Rattle.fields.specs.declared.Field.the-variants.{Whole}
+use Rattle.records.specs.Record.{Record, isBlock, widthOf, rangeOf}
+use Rattle.records.specs.Judge.{inOrder}
+use Rattle.records.specs.Place.{previousOf}
+use Rattle.records.specs.Layout.{partsOf, recordOn, LaidOut, Readable}
+use Rattle.records.specs.declared.Layout.{Layout}
+use Rattle.image.specs.Image.{Image, sound, defective, refused, nextOf}
 use Rattle.image.specs.declared.Reading.{Reading}
 use Rattle.image.specs.declared.Reading.the-variants.{Refused, Taken}
-use Rattle.image.specs.declared.Nesting.{Nesting}
-use Rattle.image.specs.declared.Nesting.the-variants.{Under, Overlapping}
+use Rattle.image.specs.declared.Place.{Place}
+use Rattle.image.specs.declared.Place.the-variants.{Under, Bad}
 use Rattle.image.specs.declared.Verdict.{Verdict}
 use Rattle.image.specs.declared.Verdict.the-variants.{Sound, Defective}
 
@@ -26,58 +29,67 @@ abbrev pub verdictOf : Image → Verdict
 verdictOf (sound records) = Sound (length records)
 verdictOf (defective defect place) = Defective defect place
 
--- Reading a record at a position, judged for defects 3 to 6 alone
+-- A record at a position, judged by itself
 
-abbrev pub nextAlone : List Record → Head → Next
-nextAlone earlier short = refused 3
-nextAlone earlier (field tag contents rest) = afterJudged (judgeAlone earlier tag contents) rest
+-- a field stands there, and it is a record that can be read
+pub record TakenAt (s : List ℕ) (at : ℕ) (l : Layout) : Type 0 where
+  pub readable : Readable s l
+  pub stands : fieldAt s at (length s) ≡ Whole (l .tag) (l .start) (l .end)
 
-abbrev pub nextAt : List ℕ → Reading → Next
-nextAt s (Refused defect) = refused defect
-nextAt s (Taken tag p to) = taken (recordAt s tag p) (slice to (length s) s)
+-- refused whatever the earlier records are
+abbrev pub ReadAt : List ℕ → ℕ → Reading → Type 0
+ReadAt s at (Refused defect) = (earlier : List Record) → nextOf earlier (headOf (slice at (length s) s)) ≡ refused defect
+ReadAt s at (Taken l) = TakenAt s at l
 
--- a record's parts lie in the image, and the next one starts behind its field
-abbrev pub TakenPlaced : List ℕ → ℕ → Reading → Type 0
-TakenPlaced s at (Refused defect) = Unit {0}
-TakenPlaced s at (Taken tag p to) = Placed tag (length s) p × (at < to) × (to ≤ length s) × (to ≡ behind (fieldAt s at (length s)) at)
+-- Addresses by their positions
 
-pub record ReadAt (s : List ℕ) (before : ℕ) (p : Parts) (at : ℕ) (r : Reading) : Type 0 where
-  pub same : nextAt s r ≡ nextAlone (previousOf s before p) (headOf (slice at (length s) s))
-  pub placed : TakenPlaced s at r
+-- 4 or 16 bytes
+abbrev pub IsWidth : ℕ → Type 0
+IsWidth width = (4 ≤ width) × ((width ≡ 4 → ⊥) → width ≡ 16)
 
--- Defect 7 by the open blocks: the last addresses of those whose ranges start at the first `depth` positions of `stack`, the innermost first
+abbrev pub numberAt : List ℕ → ℕ → ℕ → ℕ
+numberAt s width at = value (slice at (at + width) s)
 
-abbrev pub lastAt : List ℕ → ℕ → ℕ → ℕ
-lastAt s width start = value (slice (start + width) (start + width + width) s)
+-- first and last, one after the other
+abbrev pub rangeIn : List ℕ → ℕ → ℕ → Range
+rangeIn s width at = record { first = numberAt s width at; last = numberAt s width (at + width) }
 
-abbrev pub openLasts : List ℕ → ℕ → List ℕ → ℕ → List ℕ
-openLasts s width stack zero = []
-openLasts s width stack (suc d) = lastAt s width (getD stack d 0) ∷ openLasts s width stack d
-
--- without those that end before `first`
-abbrev pub stillOpen : ℕ → List ℕ → List ℕ
-stillOpen first [] = []
-stillOpen first (l ∷ ls) = cond (leb first l) (l ∷ ls) (stillOpen first ls)
-
--- whether the innermost ends before `last`
-abbrev pub sticksOut : ℕ → List ℕ → Bool
-sticksOut last [] = false
-sticksOut last (l ∷ ls) = not (leb last l)
+-- Defect 7 by the open blocks: their ranges start at the first `depth` positions of `stack`, the innermost last
 
 -- all these ranges lie in the image
 abbrev pub Opened : List ℕ → ℕ → List ℕ → ℕ → Type 0
 Opened s width stack depth = (d : ℕ) → d < depth → getD stack d 0 + 2 * width ≤ length s
 
-abbrev pub Nested : List ℕ → ℕ → ℕ → List ℕ → ℕ → List ℕ → Nesting → Type 0
-Nested s width start stack depth left (Under d) = (d ≤ depth) × (openLasts s width stack d ≡ left) × (sticksOut (lastAt s width start) left ≡ false)
-Nested s width start stack depth left Overlapping = sticksOut (lastAt s width start) left ≡ true
+-- the last address of open block d
+abbrev pub openLast : List ℕ → ℕ → List ℕ → ℕ → ℕ
+openLast s width stack d = rangeIn s width (getD stack d 0) .last
 
-abbrev pub NestedIn : List ℕ → ℕ → ℕ → List ℕ → ℕ → Nesting → Type 0
-NestedIn s width start stack depth r =
-    Nested s width start stack depth (stillOpen (value (slice start (start + width) s)) (openLasts s width stack depth)) r
+-- The range at `start` goes under the innermost that does not end before it, and has to lie inside it.
+abbrev pub nestOf : List ℕ → ℕ → ℕ → List ℕ → ℕ → Place
+nestOf s width start stack zero = Under 0
+nestOf s width start stack (suc d) =
+    cond (leb (rangeIn s width start .first) (openLast s width stack d))
+    (cond (leb (rangeIn s width start .last) (openLast s width stack d)) (Under (suc d)) (Bad 7))
+    (nestOf s width start stack d)
+
+-- Defects 5 to 7 of a record that can be read, which comes after the record p; there is none if p has the tag 0
+
+abbrev pub recordBefore : List ℕ → Layout → List Record
+recordBefore s p = previousOf s (p .tag) (partsOf p)
+
+pub record Coming (s : List ℕ) (p r : Layout) (stack : List ℕ) (depth : ℕ) : Type 0 where
+  pub laid : LaidOut (length s) r
+  pub earlier : 0 < p .tag → LaidOut (length s) p
+  pub open-blocks : r .tag ≤ 18 → p .tag ≡ r .tag → (depth ≤ 4096) × Opened s (widthOf (r .tag)) stack depth
+
+-- the status and the range
+abbrev pub goodBlock : Record → Bool
+goodBlock r = leb (value (r .status)) 1 && wellFormed (rangeOf r)
 
 -- only a block after a block of its tag is nested
-pub record Placing (s : List ℕ) (before tag start : ℕ) (stack : List ℕ) (depth : ℕ) (r : Nesting) : Type 0 where
-  pub named : 18 < tag → r ≡ Under 0
-  pub other : (before ≡ tag → ⊥) → r ≡ Under 0
-  pub nested : tag ≤ 18 → before ≡ tag → NestedIn s (widthOf tag) start stack depth r
+abbrev pub nestOn : List ℕ → Layout → Layout → List ℕ → ℕ → Place
+nestOn s p r stack depth = cond (isBlock (r .tag) && eqb (p .tag) (r .tag)) (nestOf s (widthOf (r .tag)) (r .start + 3) stack depth) (Under 0)
+
+unfoldable pub placeOn : List ℕ → Layout → Layout → List ℕ → ℕ → Place
+placeOn s p r stack depth =
+    cond (goodBlock (recordOn s r)) (cond (inOrder (recordBefore s p) (recordOn s r)) (nestOn s p r stack depth) (Bad 6)) (Bad 5)

@@ -11,8 +11,7 @@ use lib.Seq.{slice, slice-cons, slice-empty, length-slice, getD-drop, getD-take,
 use Rattle.address.specs.Number.{value, valueFrom, atMost, Bytes, order}
 use Rattle.address.specs.Ranges.{wellFormed}
 use Rattle.fields.specs.Slices.{take-slice, drop-slice, part-slice}
-use Rattle.name.specs.Texts.{goodText}
-use Rattle.records.specs.Record.{Record, goodName, goodContents, firstOf, lastOf, widthOf}
+use Rattle.records.specs.Record.{Record, goodTexts, goodContents, firstOf, lastOf, widthOf}
 use Rattle.records.specs.Place.{bytesOf}
 use Rattle.records.specs.declared.Span.{Span}
 
@@ -24,7 +23,7 @@ bytes-slice s a e q b i h =
 pub no-bytes : (s : List ℕ) (x : Span) → x .start ≡ x .end → bytesOf s x ≡ []
 no-bytes s x e = rw (e, slice-empty (x .end) s)
 
-one-byte : (s : List ℕ) (x : Span) → x .end ≤ length s → x .end - x .start ≡ 1 → value (bytesOf s x) ≡ getD s (x .start) 0
+pub one-byte : (s : List ℕ) (x : Span) → x .end ≤ length s → x .end - x .start ≡ 1 → value (bytesOf s x) ≡ getD s (x .start) 0
 unfolding value valueFrom
 one-byte s x q e =
     let f : x .end ≡ suc (x .start) = omega arith in
@@ -47,22 +46,11 @@ module _ (s : List ℕ) (range status : Span) (w : ℕ) (q : status .end ≤ len
         (k ∙ rw (z, part-slice (range .start) (range .start + w) s (omega arith), part-slice (range .start + w) (range .end) s m)
         (order _ _ (a ∙ sym c) (bytes-slice s (range .start) (range .start + w) (omega arith) b) (bytes-slice s (range .start + w) (range .end) p b)))
 
-module _ (r : Record) where
-  pub contents-handle : goodText 0x21 (r .handle) ≡ false → false ≡ goodContents r
-  unfolding goodContents
-  contents-handle e = rw e
+module _ (r : Record) (e : goodTexts r ≡ true) where
+  pub contents-block : (v : Bool) → v ≡ (leb (value (r .status)) 1 && leb (firstOf r) (lastOf r)) → v ≡ goodContents r
+  unfolding goodContents wellFormed
+  contents-block v g = rw e g
 
-  module _ (e : goodText 0x21 (r .handle) ≡ true) where
-    pub contents-name : goodName (r .tag) (r .name) ≡ false → false ≡ goodContents r
-    unfolding goodContents
-    contents-name f = rw (e, f)
-
-    module _ (f : goodName (r .tag) (r .name) ≡ true) where
-      pub contents-block : (v : Bool) → v ≡ (leb (value (r .status)) 1 && leb (firstOf r) (lastOf r)) → v ≡ goodContents r
-      unfolding goodContents wellFormed
-      contents-block v g = rw (e, f) g
-
-      pub contents-named : r .range ≡ [] → r .status ≡ [] → true ≡ goodContents r
-      unfolding value valueFrom
-      contents-named g h =
-          contents-block true (rw (h, g, take-nil {A = ℕ} (widthOf (r .tag)), drop-nil {A = ℕ} (widthOf (r .tag))))
+  pub contents-named : r .range ≡ [] → r .status ≡ [] → true ≡ goodContents r
+  unfolding value valueFrom
+  contents-named g h = contents-block true (rw (h, g, take-nil {A = ℕ} (widthOf (r .tag)), drop-nil {A = ℕ} (widthOf (r .tag))))

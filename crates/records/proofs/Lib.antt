@@ -1,9 +1,9 @@
-pub mod Steps
-pub mod Records
+pub mod Shapes
+pub mod Laid
+pub mod Layouts
 pub mod Contents
 pub mod Widths
 pub mod Order
 pub mod Judgements
 pub mod Accepted
-pub mod Laid
 pub mod Crossing

@@ -12,10 +12,9 @@ use Rattle.address.specs.Number.{value, atMost, Bytes, order}
 use Rattle.address.specs.Ranges.{sortsAfter}
 use Rattle.fields.specs.Slices.{take-slice, drop-slice, part-slice}
 use Rattle.records.specs.Record.{Record, widthOf, sortedAfter, follows}
-use Rattle.records.specs.Place.{rangeAfter, bytesOf, recordAt, previousOf}
+use Rattle.records.specs.Place.{Parts, rangeAfter, bytesOf, recordAt, previousOf}
 use Rattle.records.specs.Judge.{inOrder}
 use Rattle.records.proofs.Contents.{bytes-slice}
-use Rattle.records.specs.declared.Parts.{Parts}
 use Rattle.records.specs.declared.Span.{Span}
 
 not-leb : (a b : ℕ) (v : Bool) → leb a b ≡ v → not v ≡ ltb b a

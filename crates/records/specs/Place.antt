@@ -10,25 +10,15 @@ use Rattle.address.specs.Ranges.{sortsAfter}
 use Rattle.fields.specs.Place.{fieldAt, passed}
 use Rattle.fields.specs.declared.Field.{Field}
 use Rattle.fields.specs.declared.Field.the-variants.{Whole, Short}
-use Rattle.records.specs.Record.{Record, Parsed, whole, malformed, isBlock, recordOf, widthOf, rangeFrom}
-use Rattle.records.specs.Judge.{Judged, bad, good, judgeAlone}
+use Rattle.records.specs.Record.{Record, isBlock, widthOf, rangeFrom}
 use Rattle.records.specs.declared.Span.{Span}
-use Rattle.records.specs.declared.Part.{Part}
-use Rattle.records.specs.declared.Part.the-variants.{Found, Missing}
-use Rattle.records.specs.declared.Parts.{Parts}
-use Rattle.records.specs.declared.Shape.{Shape}
-use Rattle.records.specs.declared.Shape.the-variants.{Malformed}
-use Rattle.records.specs.declared.Shape.the-variants as Shape
-use Rattle.records.specs.declared.Judgement.{Judgement}
-use Rattle.records.specs.declared.Judgement.the-variants.{Good, Bad}
 
--- the part at a position of what ends at `end`, if it has the tag
-abbrev pub partOf : Field → ℕ → Part
-partOf Short tag = Missing
-partOf (Whole t from to) tag = cond (eqb t tag) (Found (record { start = from; end = to })) Missing
-
-unfoldable pub partAt : List ℕ → ℕ → ℕ → ℕ → Part
-partAt s at end tag = partOf (fieldAt s at end) tag
+-- where the contents of a record's fields 20 to 23 are; an absent field's are empty
+pub record Parts : Type 0 where
+  pub range : Span
+  pub handle : Span
+  pub name : Span
+  pub status : Span
 
 abbrev pub bytesOf : List ℕ → Span → List ℕ
 bytesOf s x = slice (x .start) (x .end) s
@@ -71,20 +61,6 @@ handleSpan s tag start = innerSpan s start (cond (isBlock tag) 1 0)
 unfoldable pub nameSpan : List ℕ → ℕ → ℕ → Span
 nameSpan s tag start = innerSpan s start (cond (isBlock tag) 2 1)
 
--- Defect 4: parsing the contents of a record of this tag from start up to end
-
-abbrev pub parsedAt : List ℕ → ℕ → Shape → Parsed
-parsedAt s tag Malformed = malformed
-parsedAt s tag (Shape.Whole p) = whole (recordAt s tag p)
-
-abbrev pub ShapePlaced : ℕ → ℕ → Shape → Type 0
-ShapePlaced tag end Malformed = Unit {0}
-ShapePlaced tag end (Shape.Whole p) = Placed tag end p
-
-pub record Parsing (s : List ℕ) (tag start end : ℕ) (r : Shape) : Type 0 where
-  pub same : parsedAt s tag r ≡ recordOf tag (slice start end s)
-  pub placed : ShapePlaced tag end r
-
 -- Defect 6: ranges of two addresses of this width, one strictly after the other in the sorting
 abbrev pub rangeAfter : ℕ → List ℕ → List ℕ → Bool
 rangeAfter width p r = sortsAfter (rangeFrom width p) (rangeFrom width r)
@@ -92,17 +68,3 @@ rangeAfter width p r = sortsAfter (rangeFrom width p) (rangeFrom width r)
 -- the record before, if there is one: `before` is its tag, or 0
 abbrev pub previousOf : List ℕ → ℕ → Parts → List Record
 previousOf s before p = cond (eqb before 0) [] (recordAt s before p ∷ [])
-
--- Defects 3 to 6: judging the record from start up to end after the one whose parts are p
-
-abbrev pub judgedAt : List ℕ → ℕ → Judgement → Judged
-judgedAt s tag (Bad defect) = bad defect
-judgedAt s tag (Good p) = good (recordAt s tag p)
-
-abbrev pub JudgementPlaced : ℕ → ℕ → Judgement → Type 0
-JudgementPlaced tag end (Bad defect) = Unit {0}
-JudgementPlaced tag end (Good p) = Placed tag end p
-
-pub record Judging (s : List ℕ) (before : ℕ) (p : Parts) (tag start end : ℕ) (r : Judgement) : Type 0 where
-  pub same : judgedAt s tag r ≡ judgeAlone (previousOf s before p) tag (slice start end s)
-  pub placed : JudgementPlaced tag (length s) r

@@ -77,10 +77,13 @@ recordOf tag contents =
 unfoldable pub goodName : ℕ → List ℕ → Bool
 goodName tag name = cond (within 0x13 0x14 tag) (goodHost name) (goodText 0x20 name)
 
--- 21 is a handle, 22 a name; 23 is 1 or 0, and first is not above last. A record without 20 and 23 has no bytes there, which are 0.
+-- 21 is a handle, 22 a name
+abbrev pub goodTexts : Record → Bool
+goodTexts r = goodText 0x21 (r .handle) && goodName (r .tag) (r .name)
+
+-- 23 is 1 or 0, and first is not above last. A record without 20 and 23 has no bytes there, which are 0.
 unfoldable pub goodContents : Record → Bool
-goodContents r =
-    goodText 0x21 (r .handle) && goodName (r .tag) (r .name) && (leb (value (r .status)) 1 && wellFormed (rangeOf r))
+goodContents r = goodTexts r && (leb (value (r .status)) 1 && wellFormed (rangeOf r))
 
 -- Defect 6
 

@@ -17,16 +17,16 @@ enum-told c = search needs
 returns : tie.Need-returns
 returns c =
     let a = c .before .before .before .before in
-    read-short (now (a .args .image)) (a .args .before) (a .args .p) (a .args .at) (a .pre .1) _ (c .before .before .read .ensures) (c .enum-told .given .1)
+    read-short (now (a .args .image)) (a .args .at) (a .pre) _ (c .before .before .read .ensures) (c .enum-told .given .1)
 
 judge-requires : tie.Need-judge-requires
 judge-requires c κs =
     let a = c .before .before .before .before .before in
-    let i = read-inside (now (a .args .image)) (a .args .before) (a .args .p) (a .args .at) (a .pre .1) _ (c .before .before .before .read .ensures) _ _ _ (c .before .tag .given .1) in
-    (a .pre .0, i .forward, i .within)
+    let i = read-inside (now (a .args .image)) (a .args .at) (a .pre) _ (c .before .before .before .read .ensures) _ _ _ (c .before .tag .given .1) in
+    (i .forward, i .within)
 
-enum-known-r : tie.Need-enum-known-r
-enum-known-r c = search needs
+enum-known-middle : tie.Need-enum-known-middle
+enum-known-middle c = search needs
 
 enum-known-defect : tie.Need-enum-known-defect
 enum-known-defect c = search needs
@@ -34,14 +34,12 @@ enum-known-defect c = search needs
 returns-2 : tie.Need-returns-2
 returns-2 c =
     let a = c .before .before .before .before .before .before .before .before .before in
-    read-good (now (a .args .image)) (a .args .before) (a .args .p) (a .args .at) (a .pre .1) _ (c .before .before .before .before .before .before .before .read .ensures) _ _ _ (c .before .before .before .before .before .tag .given .1)
-    _ (c .before .before .before .judge .ensures) _ (c .before .r .given .1)
+    read-good (now (a .args .image)) (a .args .at) (a .pre) _ (c .before .before .before .before .before .before .before .read .ensures) _ _ _ (c .before .before .before .before .before .tag .given .1) _ (c .before .before .before .judge .ensures) _ (c .before .middle .given .1)
 
 returns-3 : tie.Need-returns-3
 returns-3 c =
     let a = c .before .before .before .before .before .before .before .before .before in
-    read-bad (now (a .args .image)) (a .args .before) (a .args .p) (a .args .at) (a .pre .1) _ (c .before .before .before .before .before .before .before .read .ensures) _ _ _ (c .before .before .before .before .before .tag .given .1)
-    _ (c .before .before .before .judge .ensures) _ (c .before .defect .given .1)
+    read-bad (now (a .args .image)) (a .args .at) (a .pre) _ (c .before .before .before .before .before .before .before .read .ensures) _ _ _ (c .before .before .before .before .before .tag .given .1) _ (c .before .before .before .judge .ensures) _ (c .before .defect .given .1)
 
 pub record-at-spec : {M : Type 1} → statement M
 record-at-spec =
@@ -52,7 +50,7 @@ record-at-spec =
     enum-told
     returns
     judge-requires
-    enum-known-r
+    enum-known-middle
     enum-known-defect
     returns-2
     returns-3)

@@ -1,0 +1,21 @@
+-- The sorting first, then the open blocks.
+use mathlib.Core.Path.{sym, _∙_}
+use borrow.Author.Tests.{not-true, not-false}
+use borrow.Author.Needs.{needs}
+use Rattle.image.proofs.place_after.Statement.{statement}
+use Rattle.image.proofs.place_after.Tie as tie
+
+after-requires : tie.Need-after-requires
+after-requires c κs = search needs
+
+returns : tie.Need-returns
+returns c = rw (sym (c .before .after .ensures) ∙ not-true _ (c .if1 .taken))
+
+nest-requires : tie.Need-nest-requires
+nest-requires c κs = search needs
+
+returns-2 : tie.Need-returns-2
+returns-2 c = rw (sym (c .before .before .after .ensures) ∙ not-false _ (c .before .if1 .left)) (c .nest .ensures)
+
+pub place-after-spec : {M : Type 1} → statement M
+place-after-spec = tie.close (tie.spec after-requires returns nest-requires returns-2)
