@@ -2,8 +2,6 @@ pub mod Shapes
 pub mod Laid
 pub mod Layouts
 pub mod Contents
-pub mod Widths
-pub mod Order
 pub mod Judgements
 pub mod Accepted
 pub mod Crossing

@@ -1,16 +1,15 @@
 -- What the code answers about one record, in positions of the image.
-use mathlib.Core.Bool.{Bool, cond}
+use mathlib.Core.Bool.{cond}
 use mathlib.Core.Path.{_≡_}
 use mathlib.Core.List.{List, [], _∷_}
 use Prim.Native.Nat.{ℕ, _-_, _*_, _≤_, _<_}
 use lib.Dec.{eqb}
 use lib.ListN.{length}
 use lib.Seq.{slice}
-use Rattle.address.specs.Ranges.{sortsAfter}
 use Rattle.fields.specs.Place.{fieldAt, passed}
 use Rattle.fields.specs.declared.Field.{Field}
 use Rattle.fields.specs.declared.Field.the-variants.{Whole, Short}
-use Rattle.records.specs.Record.{Record, isBlock, widthOf, rangeFrom}
+use Rattle.records.specs.Record.{Record, isBlock, widthOf}
 use Rattle.records.specs.declared.Span.{Span}
 
 -- where the contents of a record's fields 20 to 23 are; an absent field's are empty
@@ -60,10 +59,6 @@ handleSpan s tag start = innerSpan s start (cond (isBlock tag) 1 0)
 
 unfoldable pub nameSpan : List ℕ → ℕ → ℕ → Span
 nameSpan s tag start = innerSpan s start (cond (isBlock tag) 2 1)
-
--- Defect 6: ranges of two addresses of this width, one strictly after the other in the sorting
-abbrev pub rangeAfter : ℕ → List ℕ → List ℕ → Bool
-rangeAfter width p r = sortsAfter (rangeFrom width p) (rangeFrom width r)
 
 -- the record before, if there is one: `before` is its tag, or 0
 abbrev pub previousOf : List ℕ → ℕ → Parts → List Record
