@@ -3,9 +3,9 @@ use mathlib.Core.Path.{_≡_, refl, sym, _∙_}
 use mathlib.Core.Bool.{Bool, true, false}
 use mathlib.Core.List.{List}
 use Prim.Native.Nat.{ℕ, zero, suc, _+_, _*_, _/_, _%_, _<_, _≤_}
-use borrow.Author.Tests.{le-leb, lt-leb, ltb-true, ltb-false}
+use borrow.Author.Tests.{ltb-true, ltb-false}
 use native.Mathlib.Omega.{arith}
-use lib.Dec.{leb, ltb}
+use lib.Dec.{ltb}
 use lib.ListN.{length, getD, take, drop}
 use lib.Seq.{take-suc}
 use Rattle.address.specs.Number.{atMost, Bytes}
@@ -106,14 +106,3 @@ module _ (x y : List ℕ) (b : Bytes x) (d : Bytes y) (i : ℕ) where
 
     pub word-equal : valueAt x i k ≤ valueAt y i k → valueAt y i k ≤ valueAt x i k → atMost (drop (i + k) x) (drop (i + k) y) ≡ atMost (drop i x) (drop i y)
     word-equal h l = sym (same-prefix k p q (omega arith))
-
-    -- the last word
-    pub word-last : length x ≤ i + k → leb (valueAt x i k) (valueAt y i k) ≡ atMost (drop i x) (drop i y)
-    word-last e = pick (ltb (valueAt x i k) (valueAt y i k)) (ltb (valueAt y i k) (valueAt x i k)) refl refl
-      where
-        pick : (t u : Bool) → ltb (valueAt x i k) (valueAt y i k) ≡ t → ltb (valueAt y i k) (valueAt x i k) ≡ u → leb (valueAt x i k) (valueAt y i k) ≡ atMost (drop i x) (drop i y)
-        pick true u f g = rw (below k p q (ltb-true (valueAt x i k) (valueAt y i k) f)) (le-leb (valueAt x i k) (valueAt y i k) (omega (arith, ltb-true (valueAt x i k) (valueAt y i k) f)))
-        pick false true f g = rw (above k p q (ltb-true (valueAt y i k) (valueAt x i k) g)) (lt-leb (valueAt x i k) (valueAt y i k) (ltb-true (valueAt y i k) (valueAt x i k) g))
-        pick false false f g =
-            let m : valueAt x i k ≡ valueAt y i k = omega (arith, ltb-false (valueAt x i k) (valueAt y i k) f, ltb-false (valueAt y i k) (valueAt x i k) g) in
-            rw (same-prefix k p q m, step.done x y (i + k) e) (le-leb (valueAt x i k) (valueAt y i k) (omega arith))

@@ -4,4 +4,5 @@ pub mod Words
 pub mod Ranges
 pub mod Prefix
 pub mod Address
+pub mod Positions
 pub mod Computing

@@ -10,11 +10,12 @@ use lib.Dec.{leb, ltb}
 use lib.ListN.{length, drop, getD}
 use Rattle.address.specs.Number.{value}
 use Rattle.address.specs.Ranges.{Range, overlaps}
+use Rattle.address.specs.Positions.{numberIn, rangeIn}
 use Rattle.records.specs.Record.{widthOf}
 use Rattle.blocks.specs.Scans.{gapPass, gapIn}
 use Rattle.blocks.proofs.Geometry.{Proper}
 use Rattle.blocks.proofs.Laminar.{Laminar, accepted-laminar}
-use Rattle.scans.specs.Standing.{blocksIn, numberIn, rangeIn, between}
+use Rattle.scans.specs.Standing.{blocksIn, between}
 use Rattle.bottom.specs.Links.{nth, Link, Gathered, Testable, freeFrom}
 use Rattle.bottom.proofs.Indices.{nth-proper}
 use Rattle.bottom.proofs.Gaps.{none-free, front, hop, end, child, inner-link}

@@ -7,9 +7,10 @@ use native.Mathlib.Decide.{decLt}
 use native.Mathlib.Nat.{add-zero}
 use lib.ListN.{length, drop, getD, set, length-drop}
 use lib.Seq.{drop-cons, getD-set-same, getD-set-other}
+use Rattle.address.specs.Positions.{rangeIn}
 use Rattle.image.specs.declared.Run.{Run}
 use Rattle.blocks.specs.Blocks.{Block}
-use Rattle.scans.specs.Standing.{blocksIn, rangeIn, Asked}
+use Rattle.scans.specs.Standing.{blocksIn, Asked}
 use Rattle.scans.proofs.Walks.{blocksLeft, run-start, run-end, within, comparable, next-left, asked-accepted, asked-few}
 use Rattle.bottom.specs.Links.{absent, nth, Reachable, Started, Gathered, Numbered}
 

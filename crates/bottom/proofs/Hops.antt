@@ -9,11 +9,12 @@ use borrow.Author.Tests.{leb-true, leb-false}
 use lib.Dec.{leb}
 use lib.ListN.{length, getD, set}
 use lib.Seq.{getD-set-same, getD-set-other}
+use Rattle.address.specs.Positions.{numberIn}
 use Rattle.records.specs.Record.{widthOf}
 use Rattle.blocks.specs.Blocks.{Block}
 use Rattle.blocks.proofs.Geometry.{Strictly}
 use Rattle.blocks.proofs.Laminar.{Laminar, accepted-laminar}
-use Rattle.scans.specs.Standing.{blocksIn, numberIn}
+use Rattle.scans.specs.Standing.{blocksIn}
 use Rattle.bottom.specs.Links.{nth, Link, Linked, Gathered}
 use Rattle.bottom.proofs.Indices.{first-rises, begins-inside}
 

@@ -9,12 +9,12 @@ use lib.Dec.{T}
 use lib.ListN.{length, drop, getD, drop-of-length-le}
 use lib.Seq.{drop-cons}
 use Rattle.records.specs.Record.{widthOf}
+use Rattle.image.proofs.Addresses.{wide-family}
 use Rattle.blocks.specs.Blocks.{Block}
 use Rattle.blocks.specs.Relations.{select}
 use Rattle.blocks.proofs.Select.{select-kept, select-dropped}
 use Rattle.scans.specs.Standing.{blocksIn}
 use Rattle.scans.specs.Tests.{Comparable}
-use Rattle.scans.proofs.Accepting.{wide-family}
 use Rattle.bottom.specs.Links.{absent, nth, Gathered}
 
 module _ {s : List ℕ} {family : ℕ} {starts : List ℕ} {n : ℕ} (g : Gathered s family starts n) where

@@ -6,11 +6,12 @@ use mathlib.Core.List.{List}
 use lib.Dec.{T}
 use lib.ListN.{length, getD}
 use Rattle.address.specs.Number.{value}
+use Rattle.address.specs.Positions.{rangeIn}
 use Rattle.records.specs.Record.{widthOf}
 use Rattle.image.specs.declared.Run.{Run}
 use Rattle.blocks.specs.Blocks.{Block}
 use Rattle.blocks.specs.Defects.{accepted}
-use Rattle.scans.specs.Standing.{blocksIn, rangeIn}
+use Rattle.scans.specs.Standing.{blocksIn}
 
 -- what stands past the end of a list of blocks
 abbrev pub absent : Block

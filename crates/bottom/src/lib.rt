@@ -5,19 +5,20 @@ ghost use lib.Dec.{leb, ltb};
 ghost use lib.ListN.{length};
 ghost use Rattle.address.specs.Number.{value};
 ghost use Rattle.address.specs.Ranges.{overlaps as «overlaps_of»};
+ghost use Rattle.address.specs.Positions.{Wide, numberIn, rangeIn};
 ghost use Rattle.records.specs.Record.{widthOf};
 ghost use Rattle.blocks.specs.Relations.{select, bottom as «bottom_of»};
 ghost use Rattle.blocks.specs.Scans.{gapIn};
-ghost use Rattle.scans.specs.Standing.{blocksIn, numberIn, rangeIn, between, Asked};
+ghost use Rattle.scans.specs.Standing.{blocksIn, between, Asked};
 ghost use Rattle.listing.specs.Listing.{Collected};
-ghost use Rattle.scans.specs.Tests.{Wide, Comparable};
+ghost use Rattle.scans.specs.Tests.{Comparable};
 ghost use Rattle.bottom.specs.Links.{nth, Link, Linked, Reachable, Started, Gathered, Numbered, Testable, freeFrom};
+use address::numbers_at_most;
 use address::word4;
 use address::word8;
 use image::Run;
 use records::width_of;
 use scans::any_inside;
-use scans::at_most;
 use scans::range_start;
 
 // Where the ranges of the blocks start.
@@ -51,7 +52,7 @@ fn hop(
     let end = starts[i] as usize + width;
     let mut j = i + 1;
     while j < n {
-        if !at_most(image, starts[j] as usize, image, end, width) {
+        if !numbers_at_most(image, starts[j] as usize, image, end, width) {
             return j;
         }
         j = links[j] as usize;
@@ -118,10 +119,10 @@ fn overlaps(image: &[u8], at: usize, first: &[u8], last: &[u8]) -> bool
     ensures { λ r. ⌜ r ≡ «overlaps_of» (rangeIn (now (image .entry)) at (length (now (first .entry)))) (between (now (first .entry)) (now (last .entry))) ⌝ }
 {
     let width = first.len();
-    if !at_most(image, at, last, 0, width) {
+    if !numbers_at_most(image, at, last, 0, width) {
         return false;
     }
-    at_most(first, 0, image, at + width, width)
+    numbers_at_most(first, 0, image, at + width, width)
 }
 
 // Whether a child begins after the first address, of those that first and the block at a position leave, that no child seen so far holds.
@@ -133,10 +134,10 @@ fn begins_later(image: &[u8], at: usize, child: usize, any: bool, kept: usize, f
         (numberIn (now (image .entry)) child (length (now (first .entry)))) ⌝ }
 {
     let width = first.len();
-    if at_most(image, child, first, 0, width) {
+    if numbers_at_most(image, child, first, 0, width) {
         return false;
     }
-    if at_most(image, child, image, at, width) {
+    if numbers_at_most(image, child, image, at, width) {
         return false;
     }
     if any {
@@ -152,10 +153,10 @@ fn reaches(image: &[u8], at: usize, child: usize, last: &[u8]) -> bool
         (numberIn (now (image .entry)) (child + length (now (last .entry))) (length (now (last .entry)))) ⌝ }
 {
     let width = last.len();
-    if at_most(last, 0, image, child + width, width) {
+    if numbers_at_most(last, 0, image, child + width, width) {
         return true;
     }
-    at_most(image, at + width, image, child + width, width)
+    numbers_at_most(image, at + width, image, child + width, width)
 }
 
 // Whether block i is the smallest one that holds some address of first to last.

@@ -10,6 +10,7 @@ use lib.ListN.{length, getD}
 use lib.Seq.{slice, slice-empty, take-nil, drop-nil}
 use Rattle.address.specs.Number.{value, valueFrom, atMost}
 use Rattle.address.specs.Ranges.{Range, wellFormed, sortsAfter}
+use Rattle.address.specs.Positions.{numberIn, rangeIn}
 use Rattle.fields.specs.Slices.{take-slice, drop-slice}
 use Rattle.records.specs.Record.{Record, isBlock, widthOf, rangeFrom, rangeOf, keyOf, sortedAfter, follows}
 use Rattle.records.specs.Judge.{inOrder}
@@ -17,12 +18,12 @@ use Rattle.records.specs.Layout.{partsOf, recordOn, LaidOut}
 use Rattle.records.specs.declared.Layout.{Layout}
 use Rattle.records.proofs.Shapes.{a-block, no-block}
 use Rattle.records.proofs.Contents.{one-byte}
-use Rattle.image.specs.Place.{numberAt, rangeIn, nestOf, recordBefore, Coming, goodBlock, placeOn}
+use Rattle.image.specs.Place.{nestOf, recordBefore, Coming, goodBlock, placeOn}
 use Rattle.image.specs.declared.Place.{Place}
 use Rattle.image.specs.declared.Place.the-variants.{Under, Bad}
 
 -- the range of a block
-range-slice : (s : List ℕ) (w at : ℕ) → rangeFrom w (slice at (at + 2 * w) s) ≡ rangeIn s w at
+range-slice : (s : List ℕ) (w at : ℕ) → rangeFrom w (slice at (at + 2 * w) s) ≡ rangeIn s at w
 range-slice s w at =
     let e : at + 2 * w ≡ at + w + w = omega arith in
     rw (take-slice w at (at + 2 * w) s (omega arith), drop-slice w at (at + 2 * w) s, e)
@@ -31,7 +32,7 @@ module _ (s : List ℕ) (l : Layout) (p : LaidOut (length s) l) (b : l .tag ≤ 
   pub ranged : l .start + 3 + 2 * widthOf (l .tag) ≤ length s
   ranged = rw (a-block (l .tag) (p .known) b) at (p .range .within)
 
-  pub range-on : rangeOf (recordOn s l) ≡ rangeIn s (widthOf (l .tag)) (l .start + 3)
+  pub range-on : rangeOf (recordOn s l) ≡ rangeIn s (l .start + 3) (widthOf (l .tag))
   range-on = rw (a-block (l .tag) (p .known) b) (range-slice s (widthOf (l .tag)) (l .start + 3))
 
   pub ends : (0 < l .end) × (l .end ≤ length s)
@@ -77,9 +78,9 @@ module _ (s : List ℕ) (p r : Layout) (h : 16 ≤ r .tag) where
         rw (ne-eqb (p .tag) 0 n, le-ltb (p .tag) (r .tag) (omega arith), eq-eqb (p .tag) (r .tag) e)
 
     order-block : LaidOut (length s) p → LaidOut (length s) r → r .tag ≤ 18
-        → inOrder (recordBefore s p) (recordOn s r) ≡ sortsAfter (rangeIn s (widthOf (r .tag)) (p .start + 3)) (rangeIn s (widthOf (r .tag)) (r .start + 3))
+        → inOrder (recordBefore s p) (recordOn s r) ≡ sortsAfter (rangeIn s (p .start + 3) (widthOf (r .tag))) (rangeIn s (r .start + 3) (widthOf (r .tag)))
     order-block x y b =
-        let f : rangeOf (recordOn s p) ≡ rangeIn s (widthOf (r .tag)) (p .start + 3) = range-on s p x (omega arith) ∙ ap (λ (t : ℕ). rangeIn s (widthOf t) (p .start + 3)) e in
+        let f : rangeOf (recordOn s p) ≡ rangeIn s (p .start + 3) (widthOf (r .tag)) = range-on s p x (omega arith) ∙ ap (λ (t : ℕ). rangeIn s (p .start + 3) (widthOf t)) e in
         order-same ∙ sorted-block (recordOn s p) (recordOn s r) (a-block (r .tag) h b) _ _ f (range-on s r y b)
 
     pub order-named : 18 < r .tag → inOrder (recordBefore s p) (recordOn s r) ≡ not (atMost (keyOf (recordOn s r)) (keyOf (recordOn s p)))
@@ -98,7 +99,7 @@ module _ (s : List ℕ) (r : Layout) (y : LaidOut (length s) r) where
     bad-status h = rw (status-on s r y b, lt-leb _ 1 h)
 
     block-is : getD s (r .end - 1) 0 ≤ 1
-        → goodBlock (recordOn s r) ≡ leb (numberAt s (widthOf (r .tag)) (r .start + 3)) (numberAt s (widthOf (r .tag)) (r .start + 3 + widthOf (r .tag)))
+        → goodBlock (recordOn s r) ≡ leb (numberIn s (r .start + 3) (widthOf (r .tag))) (numberIn s (r .start + 3 + widthOf (r .tag)) (widthOf (r .tag)))
     unfolding wellFormed
     block-is h = rw (status-on s r y b, le-leb _ 1 h) (ap wellFormed (range-on s r y b))
 
@@ -122,7 +123,7 @@ module _ (s : List ℕ) (p r : Layout) (stack : List ℕ) (depth : ℕ) where
       place-status h = by-tests false _ _ (bad-status s r (c .laid) b h) refl refl
 
       module _ (h : getD s (r .end - 1) 0 ≤ 1) (t : Bool)
-          (e : t ≡ leb (numberAt s (widthOf (r .tag)) (r .start + 3)) (numberAt s (widthOf (r .tag)) (r .start + 3 + widthOf (r .tag)))) where
+          (e : t ≡ leb (numberIn s (r .start + 3) (widthOf (r .tag))) (numberIn s (r .start + 3 + widthOf (r .tag)) (widthOf (r .tag)))) where
         good : goodBlock (recordOn s r) ≡ t
         good = block-is s r (c .laid) b h ∙ sym e
 
@@ -135,7 +136,7 @@ module _ (s : List ℕ) (p r : Layout) (stack : List ℕ) (depth : ℕ) where
               g ∙ by-tests true _ false (good ∙ f) (order-other s p r (c .laid .known) n) (rw (a-block (r .tag) (c .laid .known) b) (ne-eqb (p .tag) (r .tag) n))
 
           pub place-next : p .tag ≡ r .tag
-              → x ≡ cond (sortsAfter (rangeIn s (widthOf (r .tag)) (p .start + 3)) (rangeIn s (widthOf (r .tag)) (r .start + 3)))
+              → x ≡ cond (sortsAfter (rangeIn s (p .start + 3) (widthOf (r .tag))) (rangeIn s (r .start + 3) (widthOf (r .tag))))
               (nestOf s (widthOf (r .tag)) (r .start + 3) stack depth) (Bad 6)
               → x ≡ placeOn s p r stack depth
           place-next z g =

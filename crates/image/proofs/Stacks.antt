@@ -11,15 +11,17 @@ use lib.Dec.{leb, eqb}
 use lib.ListN.{length, getD, set}
 use lib.Seq.{getD-set-same, getD-set-other}
 use Rattle.address.specs.Ranges.{Range}
+use Rattle.address.specs.Positions.{rangeIn}
 use Rattle.records.specs.Record.{Record, isBlock, widthOf, firstOf, lastOf}
 use Rattle.records.specs.Judge.{crossesAny}
 use Rattle.records.specs.Layout.{recordOn, LaidOut}
 use Rattle.records.specs.declared.Layout.{Layout}
 use Rattle.records.proofs.Shapes.{a-block, no-block}
 use Rattle.records.proofs.Accepted.{After}
-use Rattle.image.specs.Place.{rangeIn, Opened, nestOf}
+use Rattle.image.specs.Place.{Opened, nestOf}
 use Rattle.image.specs.declared.Place.{Place}
 use Rattle.image.specs.declared.Place.the-variants.{Under, Bad}
+use Rattle.image.proofs.Addresses.{low-family}
 use Rattle.image.proofs.Laminar.{Chain, openAt, stillOpen, sticksOut, open-lasts, open-chain, open-same, open-test, open-above, other-tag, no-crossing}
 use Rattle.image.proofs.Placing.{ranged, range-on}
 use Rattle.image.proofs.Nests.{openLasts, NestedIn, nested}
@@ -35,20 +37,13 @@ pub record Open (s : List ℕ) (earlier : List Record) (before bound : ℕ) (sta
 pub open-none : (s : List ℕ) (bound : ℕ) (stack : List ℕ) → Open s [] 0 bound stack 0
 open-none s bound stack = record { blocks = []; same = λ r b a. refl; chain = tt; lasts = λ h. refl; opened = λ h d k. absurd (omega (arith, k)) }
 
-block-tag : (tag : ℕ) → isBlock tag ≡ true → tag ≤ 18
-block-tag tag e = by-test (leb 0x10 tag) e
-  where
-    by-test : (t : Bool) → (t && leb tag 0x12) ≡ true → tag ≤ 18
-    by-test true k = leb-true _ _ k
-    by-test false k = absurd (eqb-false 0 1 refl (let z : _≡_ {A = ℕ} 0 1 = cc in z))
-
 -- a store above the first u elements leaves what they stand for
 lasts-below : (s : List ℕ) (w : ℕ) (stack : List ℕ) (k v u : ℕ) → u ≤ k → openLasts s w (set stack k v) u ≡ openLasts s w stack u
 lasts-below s w stack k v zero h = refl
 lasts-below s w stack k v (suc u) h =
     rw (getD-set-other stack k u v 0 (λ z. omega (arith, z)), lasts-below s w stack k v u (omega arith))
 
-lasts-push : (s : List ℕ) (w : ℕ) (stack : List ℕ) (u v : ℕ) → u < length stack → openLasts s w (set stack u v) (suc u) ≡ rangeIn s w v .last ∷ openLasts s w stack u
+lasts-push : (s : List ℕ) (w : ℕ) (stack : List ℕ) (u v : ℕ) → u < length stack → openLasts s w (set stack u v) (suc u) ≡ rangeIn s v w .last ∷ openLasts s w stack u
 lasts-push s w stack u v h = rw (getD-set-same stack u v 0 h, lasts-below s w stack u v u (le-refl u))
 
 opened-push : (s : List ℕ) (w : ℕ) (stack : List ℕ) (u v : ℕ) → u < length stack → v + 2 * w ≤ length s → Opened s w stack u → Opened s w (set stack u v) (suc u)
@@ -59,10 +54,10 @@ opened-push s w stack u v h k o d l = by-place (eqb d u) refl
     by-place false e = rw (getD-set-other stack u d v 0 (eqb-false d u e)) (o d (omega (arith, l, eqb-false d u e)))
 
 module _ (s : List ℕ) (q : Layout) (p : LaidOut (length s) q) (b : q .tag ≤ 18) where
-  first-is : firstOf (recordOn s q) ≡ rangeIn s (widthOf (q .tag)) (q .start + 3) .first
+  first-is : firstOf (recordOn s q) ≡ rangeIn s (q .start + 3) (widthOf (q .tag)) .first
   first-is = ap (λ (x : Range). x .first) (range-on s q p b)
 
-  last-is : lastOf (recordOn s q) ≡ rangeIn s (widthOf (q .tag)) (q .start + 3) .last
+  last-is : lastOf (recordOn s q) ≡ rangeIn s (q .start + 3) (widthOf (q .tag)) .last
   last-is = ap (λ (x : Range). x .last) (range-on s q p b)
 
 pub record Pushed (s : List ℕ) (earlier : List Record) (q : Layout) (stack : List ℕ) (depth : ℕ) : Type 0 where
@@ -90,7 +85,7 @@ module _ (s : List ℕ) (earlier : List Record) (before bound : ℕ) (stack : Li
     clear = no-crossing earlier r (no-block tag h);
     now-open = record {
       blocks = [];
-      same = λ x b y. absurd (omega (arith, block-tag (x .tag) b, y .tags, h));
+      same = λ x b y. absurd (omega (arith, low-family (x .tag) b, y .tags, h));
       chain = tt;
       lasts = λ k. absurd (omega (arith, k, h));
       opened = λ k. absurd (omega (arith, k, h));
@@ -116,13 +111,13 @@ module _ (s : List ℕ) (earlier : List Record) (before bound : ℕ) (stack : Li
       chained : Chain tag bound (o .blocks)
       chained = rw e at (o .chain)
 
-      left-is : map lastOf (openAt (firstOf r) (o .blocks)) ≡ stillOpen (rangeIn s (widthOf tag) (q .start + 3) .first) (openLasts s (widthOf tag) stack depth)
+      left-is : map lastOf (openAt (firstOf r) (o .blocks)) ≡ stillOpen (rangeIn s (q .start + 3) (widthOf tag) .first) (openLasts s (widthOf tag) stack depth)
       left-is =
           let f : map lastOf (o .blocks) ≡ openLasts s (widthOf tag) stack depth = rw e at (o .lasts (omega arith)) in
           open-lasts (firstOf r) (o .blocks) ∙ rw (f, first-is s q p h)
 
-      decided : crossesAny earlier r ≡ sticksOut (rangeIn s (widthOf tag) (q .start + 3) .last)
-          (stillOpen (rangeIn s (widthOf tag) (q .start + 3) .first) (openLasts s (widthOf tag) stack depth))
+      decided : crossesAny earlier r ≡ sticksOut (rangeIn s (q .start + 3) (widthOf tag) .last)
+          (stillOpen (rangeIn s (q .start + 3) (widthOf tag) .first) (openLasts s (widthOf tag) stack depth))
       decided =
           o .same r (a-block tag (p .known) h) a
           ∙ open-same (firstOf r) (o .blocks) r (le-refl _)

@@ -7,7 +7,8 @@ use lib.Dec.{leb, eqb}
 use lib.ListN.{length, getD}
 use lib.Seq.{slice}
 use Rattle.address.specs.Number.{value}
-use Rattle.address.specs.Ranges.{Range, wellFormed}
+use Rattle.address.specs.Ranges.{wellFormed}
+use Rattle.address.specs.Positions.{rangeIn}
 use Rattle.fields.specs.Field.{headOf}
 use Rattle.fields.specs.Place.{fieldAt}
 use Rattle.fields.specs.declared.Field.the-variants.{Whole}
@@ -41,19 +42,6 @@ abbrev pub ReadAt : List ℕ → ℕ → Reading → Type 0
 ReadAt s at (Refused defect) = (earlier : List Record) → nextOf earlier (headOf (slice at (length s) s)) ≡ refused defect
 ReadAt s at (Taken l) = TakenAt s at l
 
--- Addresses by their positions
-
--- 4 or 16 bytes
-abbrev pub IsWidth : ℕ → Type 0
-IsWidth width = (4 ≤ width) × ((width ≡ 4 → ⊥) → width ≡ 16)
-
-abbrev pub numberAt : List ℕ → ℕ → ℕ → ℕ
-numberAt s width at = value (slice at (at + width) s)
-
--- first and last, one after the other
-abbrev pub rangeIn : List ℕ → ℕ → ℕ → Range
-rangeIn s width at = record { first = numberAt s width at; last = numberAt s width (at + width) }
-
 -- Defect 7 by the open blocks: their ranges start at the first `depth` positions of `stack`, the innermost last
 
 -- all these ranges lie in the image
@@ -62,14 +50,14 @@ Opened s width stack depth = (d : ℕ) → d < depth → getD stack d 0 + 2 * wi
 
 -- the last address of open block d
 abbrev pub openLast : List ℕ → ℕ → List ℕ → ℕ → ℕ
-openLast s width stack d = rangeIn s width (getD stack d 0) .last
+openLast s width stack d = rangeIn s (getD stack d 0) width .last
 
 -- The range at `start` goes under the innermost that does not end before it, and has to lie inside it.
 abbrev pub nestOf : List ℕ → ℕ → ℕ → List ℕ → ℕ → Place
 nestOf s width start stack zero = Under 0
 nestOf s width start stack (suc d) =
-    cond (leb (rangeIn s width start .first) (openLast s width stack d))
-    (cond (leb (rangeIn s width start .last) (openLast s width stack d)) (Under (suc d)) (Bad 7))
+    cond (leb (rangeIn s start width .first) (openLast s width stack d))
+    (cond (leb (rangeIn s start width .last) (openLast s width stack d)) (Under (suc d)) (Bad 7))
     (nestOf s width start stack d)
 
 -- Defects 5 to 7 of a record that can be read, which comes after the record p; there is none if p has the tag 0

@@ -2,11 +2,12 @@
 use mathlib.Core.Bool.{Bool, true, false, not}
 use mathlib.Core.Path.{_≡_, refl, sym, _∙_}
 use Prim.Native.Nat.{ℕ, zero, suc, _≤_, _<_}
-use lib.Dec.{leb, ltb}
-use borrow.Author.Tests.{eq-eqb, ne-eqb, le-leb, lt-ltb, le-ltb, leb-true, leb-false}
+use lib.Dec.{leb}
+use borrow.Author.Tests.{eq-eqb, ne-eqb, le-leb}
 use native.Mathlib.Omega.{arith}
 use Rattle.address.specs.Ranges.{Range, covers, strictlyCovers, strictlyInside}
 use Rattle.address.proofs.Covering.{strictly-covers}
+use Rattle.address.proofs.Positions.{not-leb}
 use Rattle.scans.specs.Tests.{surroundsBy, freeAfter, keepsFrom}
 
 module _ (a b : Range) {u : Bool} (e : u ≡ leb (a .first) (b .first)) where
@@ -49,14 +50,6 @@ module _ (strict : Bool) (r q : Range) {u : Bool} (e : u ≡ covers r q) where
 
   pub surrounds-yes : u ≡ true → strict ≡ false → true ≡ surroundsBy strict r q
   surrounds-yes f s = rw s (sym f ∙ e)
-
--- not at most, by the other order
-pub not-leb : (x y : ℕ) {v : Bool} → v ≡ leb x y → not v ≡ ltb y x
-not-leb x y {v} g = go v g
-  where
-    go : (v : Bool) → v ≡ leb x y → not v ≡ ltb y x
-    go true h = sym (le-ltb y x (leb-true x y (sym h)))
-    go false h = sym (lt-ltb y x (leb-false x y (sym h)))
 
 -- strictly inside, and after the blocks that were kept
 module _ (n k : ℕ) (r q : Range) {u : Bool} (e : u ≡ strictlyInside r q) where

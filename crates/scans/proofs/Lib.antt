@@ -1,4 +1,3 @@
-pub mod Numbers
 pub mod Cover
 pub mod Accepting
 pub mod Walks

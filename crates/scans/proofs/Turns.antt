@@ -10,6 +10,7 @@ use lib.ListN.{length, take, getD, set, length-set}
 use Rattle.address.specs.Lists.{any}
 use Rattle.address.specs.Number.{value}
 use Rattle.address.specs.Ranges.{Range, wellFormed, strictlyInside}
+use Rattle.address.specs.Positions.{numberIn, rangeIn}
 use Rattle.image.specs.declared.Run.{Run}
 use Rattle.blocks.specs.Blocks.{Block}
 use Rattle.blocks.specs.Defects.{accepted}
@@ -17,7 +18,7 @@ use Rattle.blocks.specs.Scans.{lastPassing, firstPassing, downPass}
 use Rattle.blocks.proofs.Laminar.{Laminar}
 use Rattle.blocks.proofs.Scans.{lookup-scan, up-scan}
 use Rattle.blocks.proofs.Select.{None, first-none, last-none}
-use Rattle.scans.specs.Standing.{numberIn, rangeIn, between, Asked}
+use Rattle.scans.specs.Standing.{between, Asked}
 use Rattle.scans.specs.Tests.{Comparable, surroundsBy, freeAfter, keepsFrom, lastAround}
 use Rattle.scans.proofs.Walks.{blocksLeft, comparable, next-left, run-laminar}
 use Rattle.scans.proofs.Ends.{none-around, none-inside, down-none, any-none}

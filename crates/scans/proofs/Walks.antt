@@ -11,6 +11,7 @@ use lib.ListN.{length, drop, getD, drop-of-length-le}
 use lib.Seq.{slice}
 use Rattle.address.specs.Lists.{keep}
 use Rattle.address.specs.Ranges.{wellFormed}
+use Rattle.address.specs.Positions.{rangeIn}
 use Rattle.fields.specs.Slices.{take-slice, drop-slice}
 use Rattle.records.specs.Record.{widthOf, rangeOf}
 use Rattle.image.specs.Image.{imageOf}
@@ -20,13 +21,14 @@ use Rattle.image.specs.Index.{tagOf}
 use Rattle.image.specs.declared.Run.{Run}
 use Rattle.image.proofs.Soundness.{counted, few-records, few-bytes}
 use Rattle.image.proofs.Standing.{standing}
+use Rattle.image.proofs.Addresses.{low-family, wide-family}
 use Rattle.blocks.specs.Blocks.{Block, blocksFrom}
 use Rattle.blocks.specs.Defects.{accepted}
 use Rattle.blocks.proofs.Geometry.{proper}
 use Rattle.blocks.proofs.Laminar.{Laminar, cons, accepted-laminar}
-use Rattle.scans.specs.Standing.{blocksIn, rangeIn, between, Asked}
+use Rattle.scans.specs.Standing.{blocksIn, between, Asked}
 use Rattle.scans.specs.Tests.{Comparable}
-use Rattle.scans.proofs.Accepting.{blocks-accepted, low-family, wide-family}
+use Rattle.scans.proofs.Accepting.{blocks-accepted}
 
 -- the blocks of a family from record i on
 abbrev pub blocksLeft : List ℕ → ℕ → ℕ → List Block

@@ -1,10 +1,9 @@
 -- Blocks where they stand in a sound image, and the range that is asked for.
-use Prim.Native.Nat.{ℕ, _+_, _≤_}
+use Prim.Native.Nat.{ℕ, _≤_}
 use mathlib.Core.Bool.{true}
 use mathlib.Core.Path.{_≡_}
 use mathlib.Core.List.{List}
 use lib.ListN.{length}
-use lib.Seq.{slice}
 use Rattle.address.specs.Number.{value}
 use Rattle.address.specs.Ranges.{Range}
 use Rattle.records.specs.Record.{isBlock, widthOf}
@@ -17,14 +16,6 @@ use Rattle.blocks.specs.Blocks.{Block, blocksOf}
 -- the blocks of a family of an image
 unfoldable pub blocksIn : List ℕ → ℕ → List Block
 blocksIn image family = blocksOf family (recordsOf (imageOf image))
-
--- the address or number of a width that stands at a position
-abbrev pub numberIn : List ℕ → ℕ → ℕ → ℕ
-numberIn s at width = value (slice at (at + width) s)
-
--- first and last, one after the other
-abbrev pub rangeIn : List ℕ → ℕ → ℕ → Range
-rangeIn s at width = record { first = numberIn s at width; last = numberIn s (at + width) width }
 
 -- the range of two addresses or numbers, high byte first
 abbrev pub between : List ℕ → List ℕ → Range

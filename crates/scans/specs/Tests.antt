@@ -8,10 +8,7 @@ use lib.ListN.{length}
 use Rattle.blocks.specs.Blocks.{Block}
 use Rattle.blocks.specs.Relations.{lookup, up}
 use Rattle.address.specs.Ranges.{Range, covers, strictlyCovers, strictlyInside}
-
--- the width of an address or number: 4 or 16 bytes
-abbrev pub Wide : ℕ → Type 0
-Wide width = (4 ≤ width) × ((width ≡ 4 → ⊥) → width ≡ 16)
+use Rattle.address.specs.Positions.{Wide}
 
 -- first and last of one width, and a range of it at a position
 pub record Comparable (s : List ℕ) (at : ℕ) (first last : List ℕ) : Type 0 where

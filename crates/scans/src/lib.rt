@@ -1,24 +1,19 @@
-// Lookup, up, top and down over a sound image, and whether bottom has an answer, each by one pass over the records of a tag, which are sorted by their first address, and the tests on ranges that they use.
+// Lookup, up, top and down over a sound image, and whether bottom has an answer, each by one pass over the records of a tag, which are sorted
+// by their first address, and the tests on ranges that they use.
 ghost use mathlib.Core.Path.{_≡_};
 ghost use Prim.Native.Nat.{_+_, _*_, _≤_, _<_};
-ghost use lib.Dec.{leb, ltb};
+ghost use lib.Dec.{ltb};
 ghost use lib.ListN.{length, getD};
 ghost use Rattle.address.specs.Lists.{any as «any_of»};
 ghost use Rattle.address.specs.Number.{value};
 ghost use Rattle.address.specs.Ranges.{covers as «covers_of», strictlyInside};
+ghost use Rattle.address.specs.Positions.{Wide, numberIn, rangeIn};
 ghost use Rattle.blocks.specs.Relations.{top as «top_of», down as «down_of»};
-ghost use Rattle.scans.specs.Standing.{blocksIn, numberIn, rangeIn, between, Asked};
+ghost use Rattle.scans.specs.Standing.{blocksIn, between, Asked};
 ghost use Rattle.listing.specs.Listing.{Collected};
-ghost use Rattle.scans.specs.Tests.{Wide, Comparable, surroundsBy, freeAfter, keepsFrom, lastAround};
+ghost use Rattle.scans.specs.Tests.{Comparable, surroundsBy, freeAfter, keepsFrom, lastAround};
+use address::numbers_at_most;
 use image::Run;
-
-// The order of two addresses or numbers of one width, each at a position of a slice.
-pub fn at_most(a: &[u8], x: usize, b: &[u8], y: usize, width: usize) -> bool
-    requires { ⌜ Wide width × (x + width ≤ length (now a)) × (y + width ≤ length (now b)) ⌝ }
-    ensures { λ r. ⌜ r ≡ leb (numberIn (now (a .entry)) x width) (numberIn (now (b .entry)) y width) ⌝ }
-{
-    address::addresses_at_most(&a[x..x + width], &b[y..y + width])
-}
 
 // Whether the range at a position covers first to last.
 fn covers(image: &[u8], at: usize, first: &[u8], last: &[u8]) -> bool
@@ -26,10 +21,10 @@ fn covers(image: &[u8], at: usize, first: &[u8], last: &[u8]) -> bool
     ensures { λ r. ⌜ r ≡ «covers_of» (rangeIn (now (image .entry)) at (length (now (first .entry)))) (between (now (first .entry)) (now (last .entry))) ⌝ }
 {
     let width = first.len();
-    if !at_most(image, at, first, 0, width) {
+    if !numbers_at_most(image, at, first, 0, width) {
         return false;
     }
-    at_most(last, 0, image, at + width, width)
+    numbers_at_most(last, 0, image, at + width, width)
 }
 
 // Whether the range at a position lies inside first to last.
@@ -38,10 +33,10 @@ fn inside(image: &[u8], at: usize, first: &[u8], last: &[u8]) -> bool
     ensures { λ r. ⌜ r ≡ «covers_of» (between (now (first .entry)) (now (last .entry))) (rangeIn (now (image .entry)) at (length (now (first .entry)))) ⌝ }
 {
     let width = first.len();
-    if !at_most(first, 0, image, at, width) {
+    if !numbers_at_most(first, 0, image, at, width) {
         return false;
     }
-    at_most(image, at + width, last, 0, width)
+    numbers_at_most(image, at + width, last, 0, width)
 }
 
 // Whether it lies inside and differs.
@@ -60,7 +55,7 @@ fn begins_after(image: &[u8], at: usize, bound: &[u8]) -> bool
     requires { ⌜ Wide (length (now bound)) × (at + 2 * length (now bound) ≤ length (now image)) ⌝ }
     ensures { λ r. ⌜ r ≡ ltb (value (now (bound .entry))) (numberIn (now (image .entry)) at (length (now (bound .entry)))) ⌝ }
 {
-    !at_most(image, at, bound, 0, bound.len())
+    !numbers_at_most(image, at, bound, 0, bound.len())
 }
 
 // Whether the range at a position, which does not begin after first, is around first to last, strictly or not.
@@ -69,7 +64,7 @@ fn surrounds(image: &[u8], at: usize, first: &[u8], last: &[u8], strict: bool) -
     ensures { λ r. ⌜ r ≡ surroundsBy strict (rangeIn (now (image .entry)) at (length (now (first .entry)))) (between (now (first .entry)) (now (last .entry))) ⌝ }
 {
     let width = first.len();
-    if !at_most(last, 0, image, at + width, width) {
+    if !numbers_at_most(last, 0, image, at + width, width) {
         return false;
     }
     if strict {
@@ -91,7 +86,7 @@ fn keeps(image: &[u8], at: usize, first: &[u8], last: &[u8], n: usize, kept: usi
         return true;
     }
     let width = first.len();
-    !at_most(image, at, image, kept + width, width)
+    !numbers_at_most(image, at, image, kept + width, width)
 }
 
 // Where the range of a block starts, by its record number.

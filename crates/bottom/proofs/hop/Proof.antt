@@ -5,8 +5,8 @@ use native.Mathlib.Omega.{arith}
 use borrow.Author.Tests.{not-true, not-false}
 use lib.ListN.{getD}
 use Rattle.records.specs.Record.{widthOf}
+use Rattle.image.proofs.Addresses.{wide-family}
 use Rattle.scans.specs.Standing.{blocksIn}
-use Rattle.scans.proofs.Accepting.{wide-family}
 use Rattle.bottom.proofs.Hops.{Hopping, hops-start, hops-next, hops-stop, hops-end}
 use borrow.Author.Needs.{needs}
 use Rattle.bottom.proofs.hop.Statement.{statement}
@@ -60,27 +60,27 @@ loop-holds c =
     let few = g .few in
     (c .before .width-of .ensures .0, refl, hops-start g (c .before .before .before .args .i) (c .before .before .before .pre .1))
 
-mul-at-most : tie.Need-mul-at-most Inv-loop μ-loop
-mul-at-most c =
+mul-numbers-at-most : tie.Need-mul-numbers-at-most Inv-loop μ-loop
+mul-numbers-at-most c =
     let g = c .before .before .before .before .before .pre .0 in
     let few = g .few in
     search needs
 
-element-copy-out-at-most : tie.Need-element-copy-out-at-most Inv-loop μ-loop
-element-copy-out-at-most c =
+element-copy-out-numbers-at-most : tie.Need-element-copy-out-numbers-at-most Inv-loop μ-loop
+element-copy-out-numbers-at-most c =
     let g = c .before .before .before .before .before .pre .0 in
     let few = g .few in
     search needs
 
-cast-at-most : tie.Need-cast-at-most Inv-loop μ-loop
-cast-at-most c =
+cast-numbers-at-most : tie.Need-cast-numbers-at-most Inv-loop μ-loop
+cast-numbers-at-most c =
     let g = c .before .before .before .before .before .before .pre .0 in
     let few = g .few in
     let b = g .fits (c .before .before .loop .j) (c .before .loop-test .taken) in
     search needs
 
-at-most-requires : tie.Need-at-most-requires Inv-loop μ-loop
-at-most-requires c κs =
+numbers-at-most-requires : tie.Need-numbers-at-most-requires Inv-loop μ-loop
+numbers-at-most-requires c κs =
     let g = c .before .before .before .before .before .before .pre .0 in
     let few = g .few in
     let a = g .fits (c .before .before .before .before .before .before .args .i) (c .before .before .before .before .before .before .pre .1) in
@@ -91,7 +91,7 @@ returns : tie.Need-returns Inv-loop μ-loop
 returns c =
     let g = c .before .before .before .before .before .before .before .before .pre .0 in
     let few = g .few in
-    hops-stop g (c .before .before .before .before .before .before .before .before .args .i) (c .before .before .before .before .before .before .before .before .pre .1) (c .before .before .before .before .loop .j) (c .before .before .before .before .before .before .width-of .result) (c .before .before .before .before .before .before .width-of .ensures .0) (c .before .before .before .before .loop .inv .2) (c .before .before .before .loop-test .taken) (c .before .at-most .ensures) (not-true _ (c .if1 .taken))
+    hops-stop g (c .before .before .before .before .before .before .before .before .args .i) (c .before .before .before .before .before .before .before .before .pre .1) (c .before .before .before .before .loop .j) (c .before .before .before .before .before .before .width-of .result) (c .before .before .before .before .before .before .width-of .ensures .0) (c .before .before .before .before .loop .inv .2) (c .before .before .before .loop-test .taken) (c .before .numbers-at-most .ensures) (not-true _ (c .if1 .taken))
 
 mul-j : tie.Need-mul-j Inv-loop μ-loop
 mul-j c =
@@ -135,7 +135,7 @@ loop-again c =
     let link = c .before .before .before .before .before .before .before .before .before .pre .2 (c .before .before .before .before .before .loop .j) (omega arith) (omega arith) in (
       c .before .before .before .before .before .loop .inv .0,
       c .before .before .before .before .before .loop .inv .1,
-      hops-next g (c .before .before .before .before .before .before .before .before .before .args .i) (c .before .before .before .before .before .before .before .before .before .pre .1) (c .before .before .before .before .before .loop .j) (c .before .before .before .before .before .before .before .width-of .result) (c .before .before .before .before .before .before .before .width-of .ensures .0) (c .before .before .before .before .before .loop .inv .2) (c .before .before .before .before .loop-test .taken) (c .before .before .at-most .ensures) (not-false _ (c .before .if1 .left)) _ link,
+      hops-next g (c .before .before .before .before .before .before .before .before .before .args .i) (c .before .before .before .before .before .before .before .before .before .pre .1) (c .before .before .before .before .before .loop .j) (c .before .before .before .before .before .before .before .width-of .result) (c .before .before .before .before .before .before .before .width-of .ensures .0) (c .before .before .before .before .before .loop .inv .2) (c .before .before .before .before .loop-test .taken) (c .before .before .numbers-at-most .ensures) (not-false _ (c .before .if1 .left)) _ link,
     )
 
 returns-2 : tie.Need-returns-2 Inv-loop μ-loop
@@ -157,10 +157,10 @@ hop-spec =
     add-end
     add-j
     loop-holds
-    mul-at-most
-    element-copy-out-at-most
-    cast-at-most
-    at-most-requires
+    mul-numbers-at-most
+    element-copy-out-numbers-at-most
+    cast-numbers-at-most
+    numbers-at-most-requires
     returns
     mul-j
     element-copy-out-j

@@ -4,7 +4,7 @@ use mathlib.Core.Path.{_≡_, refl}
 use native.Mathlib.Omega.{arith}
 use borrow.Author.Tests.{not-true, not-false}
 use lib.ListN.{getD}
-use Rattle.scans.proofs.Accepting.{wide-family}
+use Rattle.image.proofs.Addresses.{wide-family}
 use Rattle.bottom.proofs.Tests.{comparable-at}
 use Rattle.bottom.proofs.Children.{Walking, walk-none, walk-start, walk-end, child-known, walk-gap, walk-over, walk-next}
 use borrow.Author.Needs.{needs}

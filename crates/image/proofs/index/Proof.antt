@@ -27,10 +27,14 @@ starts-right-requires c κs = search needs
 returns-2 : tie.Need-returns-2 Inv-loop μ-loop
 returns-2 c = index-defective _ _ _ _ (walk-wrong _ (c .before .before .if1 .left) (sym (c .before .starts-right .ensures) ∙ not-true _ (c .if2 .taken)))
 
+no-record-requires : tie.Need-no-record-requires Inv-loop μ-loop
+no-record-requires c κs = search needs
+
 loop-holds : tie.Need-loop-holds Inv-loop μ-loop
 loop-holds c =
-    let e = sym (c .before .starts-right .ensures) ∙ not-false _ (c .if2 .left) in
-    (walk-start _ (c .before .before .if1 .left) e (start-length _ e) _ refl, note-none _ _ (c .before .before .before .before .pre))
+    let e = sym (c .before .before .starts-right .ensures) ∙ not-false _ (c .before .if2 .left) in
+    rw (c .no-record .ensures)
+    (walk-start _ (c .before .before .before .if1 .left) e (start-length _ e) _ refl, note-none _ _ (c .before .before .before .before .before .pre))
 
 returns-3 : tie.Need-returns-3 Inv-loop μ-loop
 returns-3 c = index-defective _ _ _ _ (walk-full _ _ _ _ _ (c .before .before .before .loop .inv .0) (c .before .if3 .taken) (c .if4 .taken))
@@ -42,7 +46,7 @@ enum-known-r : tie.Need-enum-known-r Inv-loop μ-loop
 enum-known-r c = search needs
 
 -- a record was read
-reached : (c : tie.After-known-told Inv-loop μ-loop) → Reached (now (c .before .before .before .before .before .before .before .before .before .before .before .before .args .image)) (c .before .before .before .before .before .before .before .loop .p) (c .before .before .before .before .before .before .before .loop .stack) (c .before .before .before .before .before .before .before .loop .depth) (c .before .before .before .before .before .before .before .loop .count) (c .before .r .given .0 .0)
+reached : (c : tie.After-known-told Inv-loop μ-loop) → Reached (now (c .before .before .before .before .before .before .before .before .before .before .before .before .before .args .image)) (c .before .before .before .before .before .before .before .loop .p) (c .before .before .before .before .before .before .before .loop .stack) (c .before .before .before .before .before .before .before .loop .depth) (c .before .before .before .before .before .before .before .loop .count) (c .before .r .given .0 .0)
 reached c = walk-taken _ _ _ _ _ (c .before .before .before .before .before .before .before .loop .inv .0) (c .before .before .before .before .before .if3 .taken) (c .before .before .before .before .if4 .left) _ (c .before .before .before .record-at .ensures) _ (c .before .r .given .1)
 
 find-place-requires : tie.Need-find-place-requires Inv-loop μ-loop
@@ -124,6 +128,7 @@ index-spec =
     returns
     starts-right-requires
     returns-2
+    no-record-requires
     loop-holds
     returns-3
     record-at-requires

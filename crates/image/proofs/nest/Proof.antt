@@ -38,26 +38,26 @@ cast-last c = omega (arith, room c)
 add-last : tie.Need-add-last Inv-loop μ-loop
 add-last c = omega (arith, room c)
 
-at-most-requires : tie.Need-at-most-requires Inv-loop μ-loop
-at-most-requires c κs = (c .before .before .before .before .pre .0, omega arith, omega (arith, room c))
+numbers-at-most-requires : tie.Need-numbers-at-most-requires Inv-loop μ-loop
+numbers-at-most-requires c κs = (c .before .before .before .before .pre .0, omega arith, omega (arith, room c))
 
-add-at-most : tie.Need-add-at-most Inv-loop μ-loop
-add-at-most c = search needs
+add-numbers-at-most : tie.Need-add-numbers-at-most Inv-loop μ-loop
+add-numbers-at-most c = search needs
 
-at-most-requires-2 : tie.Need-at-most-requires-2 Inv-loop μ-loop
-at-most-requires-2 c κs = (c .before .before .before .before .before .before .pre .0, omega arith, omega (arith, room (c .before .before)))
+numbers-at-most-requires-2 : tie.Need-numbers-at-most-requires-2 Inv-loop μ-loop
+numbers-at-most-requires-2 c κs = (c .before .before .before .before .before .before .pre .0, omega arith, omega (arith, room (c .before .before)))
 
 returns : tie.Need-returns Inv-loop μ-loop
 returns c =
     let a = c .before .before .before .before .before .before .before .before .args in
     search-under (now (a .image)) (a .width) (a .start) (now (a .stack)) (a .depth) (c .before .before .before .before .before .before .loop .d) (c .before .before .before .before .before .before .loop .inv .1) (c .before .before .before .before .before .loop-test .taken)
-    (sym (c .before .before .before .at-most .ensures) ∙ c .before .before .if1 .taken) (sym (c .before .at-most2 .ensures) ∙ c .if2 .taken)
+    (sym (c .before .before .before .numbers-at-most .ensures) ∙ c .before .before .if1 .taken) (sym (c .before .numbers-at-most2 .ensures) ∙ c .if2 .taken)
 
 returns-2 : tie.Need-returns-2 Inv-loop μ-loop
 returns-2 c =
     let a = c .before .before .before .before .before .before .before .before .args in
     search-out (now (a .image)) (a .width) (a .start) (now (a .stack)) (a .depth) (c .before .before .before .before .before .before .loop .d) (c .before .before .before .before .before .before .loop .inv .1) (c .before .before .before .before .before .loop-test .taken)
-    (sym (c .before .before .before .at-most .ensures) ∙ c .before .before .if1 .taken) (sym (c .before .at-most2 .ensures) ∙ c .if2 .left)
+    (sym (c .before .before .before .numbers-at-most .ensures) ∙ c .before .before .if1 .taken) (sym (c .before .numbers-at-most2 .ensures) ∙ c .if2 .left)
 
 sub-d : tie.Need-sub-d Inv-loop μ-loop
 sub-d c = search needs
@@ -70,7 +70,7 @@ loop-again c =
     let a = c .before .before .before .before .before .before .args in (
       omega (arith, c .before .before .before .before .loop .inv .0),
       search-on (now (a .image)) (a .width) (a .start) (now (a .stack)) (a .depth) (c .before .before .before .before .loop .d) (c .before .before .before .before .loop .inv .1) (c .before .before .before .loop-test .taken)
-          (sym (c .before .at-most .ensures) ∙ c .if1 .left),
+          (sym (c .before .numbers-at-most .ensures) ∙ c .if1 .left),
     )
 
 returns-3 : tie.Need-returns-3 Inv-loop μ-loop
@@ -90,9 +90,9 @@ nest-spec =
     element-copy-out-last
     cast-last
     add-last
-    at-most-requires
-    add-at-most
-    at-most-requires-2
+    numbers-at-most-requires
+    add-numbers-at-most
+    numbers-at-most-requires-2
     returns
     returns-2
     sub-d

@@ -4,7 +4,7 @@ use native.Mathlib.Omega.{arith}
 use lib.ListN.{length}
 use borrow.Author.Tests.{not-true, not-false}
 use denote.Ref.{now}
-use Rattle.image.proofs.Addresses.{width-is}
+use Rattle.image.proofs.Addresses.{wide-family}
 use Rattle.image.proofs.Placing.{ranged, ends, before, place-status, place-range, place-first, place-next}
 use borrow.Author.Needs.{needs}
 use Rattle.image.proofs.place_block.Statement.{statement}
@@ -38,17 +38,17 @@ room c =
 add-start : tie.Need-add-start
 add-start c = omega (arith, room c)
 
-add-at-most : tie.Need-add-at-most
-add-at-most c = omega (arith, room c)
+add-numbers-at-most : tie.Need-add-numbers-at-most
+add-numbers-at-most c = omega (arith, room c)
 
-at-most-requires : tie.Need-at-most-requires
-at-most-requires c κs = (width-is (c .before .before .before .before .before .before .args .r .tag) _ (c .before .width-of .ensures .0), omega (arith, room c), omega (arith, room c))
+numbers-at-most-requires : tie.Need-numbers-at-most-requires
+numbers-at-most-requires c κs = (rw (c .before .width-of .ensures .0) (wide-family (c .before .before .before .before .before .before .args .r .tag)), omega (arith, room c), omega (arith, room c))
 
 returns-2 : tie.Need-returns-2
 returns-2 c =
     let a = c .before .before .before .before .before .before .before .before in
     place-range (now (a .args .image)) (a .args .p) (a .args .r) (now (a .args .stack)) (a .args .depth) (a .pre .0) (a .pre .1) (c .before .before .before .before .if1 .left)
-    _ (rw (c .before .before .before .width-of .ensures .0) at (c .before .at-most .ensures)) (not-true _ (c .if2 .taken))
+    _ (rw (c .before .before .before .width-of .ensures .0) at (c .before .numbers-at-most .ensures)) (not-true _ (c .if2 .taken))
 
 other-tag-requires : tie.Need-other-tag-requires
 other-tag-requires c κs = search needs
@@ -57,7 +57,7 @@ returns-3 : tie.Need-returns-3
 returns-3 c =
     let a = c .before .before .before .before .before .before .before .before .before .before .before .before in
     place-first (now (a .args .image)) (a .args .p) (a .args .r) (now (a .args .stack)) (a .args .depth) (a .pre .0) (a .pre .1) (c .before .before .before .before .before .before .before .before .if1 .left)
-    _ (rw (c .before .before .before .before .before .before .before .width-of .ensures .0) at (c .before .before .before .before .before .at-most .ensures)) (not-false _ (c .before .before .before .before .if2 .left)) _ (c .before .if3 .taken) (c .other-tag .ensures)
+    _ (rw (c .before .before .before .before .before .before .before .width-of .ensures .0) at (c .before .before .before .before .before .numbers-at-most .ensures)) (not-false _ (c .before .before .before .before .if2 .left)) _ (c .before .if3 .taken) (c .other-tag .ensures)
 
 -- so does that of the block before
 room-before : (c : tie.After-struct-known5) → c .before .before .before .before .before .before .before .before .before .before .before .before .args .p .start + 3 + 2 * c .before .before .before .before .before .before .before .width-of .result ≤ length (now (c .before .before .before .before .before .before .before .before .before .before .before .before .args .image))
@@ -74,13 +74,13 @@ place-after-requires : tie.Need-place-after-requires
 place-after-requires c κs =
     let a = c .before .before .before .before .before .before .before .before .before .before .before .before in
     let o = a .pre .0 .open-blocks (a .pre .1) (c .before .if3 .left) in
-    (width-is (a .args .r .tag) _ (c .before .before .before .before .before .before .before .width-of .ensures .0), o .0, room-before c, room (c .before .before .before .before .before .before), (rw (c .before .before .before .before .before .before .before .width-of .ensures .0) (o .1)))
+    (rw (c .before .before .before .before .before .before .before .width-of .ensures .0) (wide-family (a .args .r .tag)), o .0, room-before c, room (c .before .before .before .before .before .before), (rw (c .before .before .before .before .before .before .before .width-of .ensures .0) (o .1)))
 
 returns-4 : tie.Need-returns-4
 returns-4 c =
     let a = c .before .before .before .before .before .before .before .before .before .before .before .before .before in
     place-next (now (a .args .image)) (a .args .p) (a .args .r) (now (a .args .stack)) (a .args .depth) (a .pre .0) (a .pre .1) (c .before .before .before .before .before .before .before .before .before .if1 .left)
-    _ (rw (c .before .before .before .before .before .before .before .before .width-of .ensures .0) at (c .before .before .before .before .before .before .at-most .ensures)) (not-false _ (c .before .before .before .before .before .if2 .left)) _ (c .before .before .if3 .left) (rw (c .before .before .before .before .before .before .before .before .width-of .ensures .0) at (c .place-after .ensures))
+    _ (rw (c .before .before .before .before .before .before .before .before .width-of .ensures .0) at (c .before .before .before .before .before .before .numbers-at-most .ensures)) (not-false _ (c .before .before .before .before .before .if2 .left)) _ (c .before .before .if3 .left) (rw (c .before .before .before .before .before .before .before .before .width-of .ensures .0) at (c .place-after .ensures))
 
 pub place-block-spec : {M : Type 1} → statement M
 place-block-spec =
@@ -91,8 +91,8 @@ place-block-spec =
     returns
     width-of-requires
     add-start
-    add-at-most
-    at-most-requires
+    add-numbers-at-most
+    numbers-at-most-requires
     returns-2
     other-tag-requires
     returns-3

@@ -5,10 +5,11 @@ use mathlib.Core.List.{_++_, append-nil}
 use mathlib.Core.Path.{_≡_, sym, ap, _∙_}
 use native.Mathlib.Omega.{arith}
 use lib.ListN.{length, take}
+use Rattle.address.specs.Positions.{numberIn}
 use Rattle.blocks.specs.Relations.{down}
 use Rattle.blocks.specs.Scans.{downPass}
 use Rattle.blocks.proofs.Scans.{down-scan}
-use Rattle.scans.specs.Standing.{blocksIn, between, numberIn}
+use Rattle.scans.specs.Standing.{blocksIn, between}
 use Rattle.scans.specs.Tests.{freeAfter}
 use Rattle.scans.proofs.Walks.{blocksLeft, run-start, run-end, within, comparable, asked-accepted, asked-few}
 use Rattle.scans.proofs.Turns.{down-stop, down-found, down-missed}

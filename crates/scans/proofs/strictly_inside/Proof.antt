@@ -1,7 +1,8 @@
 -- `scans::strictly_inside` meets its contract: inside, and not the other way round.
 use borrow.Author.Tests.{not-true, not-false}
 use lib.ListN.{length}
-use Rattle.scans.specs.Standing.{rangeIn, between}
+use Rattle.address.specs.Positions.{rangeIn}
+use Rattle.scans.specs.Standing.{between}
 use Rattle.scans.proofs.Cover.{inside-no, inside-yes}
 use borrow.Author.Needs.{needs}
 use Rattle.scans.proofs.strictly_inside.Statement.{statement}
