@@ -1,10 +1,10 @@
--- The field by positions is the head of the part of the image that it looks at (`head-slice`), has the tag that stands there (`field-tag`),
--- lies inside the part (`field-inside`) and is there in a longer one too (`field-wider`).
+-- The field by positions is the head of the part of the image that it looks at (`head-slice`), has the tag that stands there (`field-tag`)
+-- and lies inside the part (`field-inside`).
 use mathlib.Core.Path.{_≡_, refl, sym, _∙_}
 use mathlib.Core.Bool.{Bool, true, false}
 use mathlib.Core.List.{List, [], _∷_}
 use Prim.Native.Nat.{ℕ, zero, suc, _+_, _-_, _≤_, _<_}
-use borrow.Author.Tests.{le-leb, lt-leb, le-ltb, ltb-true, ltb-false}
+use borrow.Author.Tests.{le-leb, lt-leb, ltb-true, ltb-false}
 use native.Mathlib.Omega.{arith}
 use lib.ListN.{length, getD}
 use lib.Seq.{slice, slice-cons, length-slice}
@@ -70,12 +70,6 @@ module _ (s : List ℕ) (at end t a b : ℕ) where
       let x : at + 3 ≡ a = cc in
       let y : at + 3 + lengthAt s at ≡ b = cc in
       record { after = x; forward = omega arith; within = omega (arith, w .room, w .fits) }
-
-  pub field-wider : fieldAt s at end ≡ Whole t a b → (n : ℕ) → end ≤ n → fieldAt s at n ≡ Whole t a b
-  unfolding fieldAt
-  field-wider e n m =
-      let w = stands e in
-      rw (le-ltb (n - at) 3 (omega (arith, w .room)), le-ltb (n - (at + 3)) (lengthAt s at) (omega (arith, w .fits))) (w .is)
 
 -- the last of a reader's steps
 pub passed-next : (s : List ℕ) (n at : ℕ) → passed s (suc n) at ≡ behind (fieldAt s (passed s n at) (length s)) (passed s n at)

@@ -14,10 +14,6 @@ pub and-right : (a b : Bool) → a && b ≡ true → b ≡ true
 and-right true b e = e
 and-right false b e = absurd (false≢true e)
 
-pub and-true : (a : Bool) → a && true ≡ a
-and-true true = refl
-and-true false = refl
-
 pub and-false : (a : Bool) → a && false ≡ false
 and-false true = refl
 and-false false = refl
