@@ -944,6 +944,12 @@ fn stretch(rng: &mut Rng, path: &mut Vec<u8>) {
     }
 }
 
+fn relation_start(rng: &mut Rng, start: &[u8], path: &mut Vec<u8>) {
+    path.extend(start);
+    path.extend(relation_name(*rng.pick(&RELATIONS)));
+    path.push(b'/');
+}
+
 fn draft_path(rng: &mut Rng, aims: &Aims, faulty: bool) -> Vec<u8> {
     let mut path = Vec::new();
     match rng.below(100) {
@@ -952,9 +958,7 @@ fn draft_path(rng: &mut Rng, aims: &Aims, faulty: bool) -> Vec<u8> {
             network(rng, aims, faulty, &mut path);
         }
         22..=45 => {
-            path.extend(b"/ips/rirSearch1/");
-            path.extend(relation_name(*rng.pick(&RELATIONS)));
-            path.push(b'/');
+            relation_start(rng, b"/ips/rirSearch1/", &mut path);
             network(rng, aims, faulty, &mut path);
         }
         46..=52 => {
@@ -964,9 +968,7 @@ fn draft_path(rng: &mut Rng, aims: &Aims, faulty: bool) -> Vec<u8> {
             decimal(rng, number, faulty, &mut path);
         }
         53..=62 => {
-            path.extend(b"/autnums/rirSearch1/");
-            path.extend(relation_name(*rng.pick(&RELATIONS)));
-            path.push(b'/');
+            relation_start(rng, b"/autnums/rirSearch1/", &mut path);
             numbers(rng, aims, faulty, &mut path);
         }
         63..=67 => {

@@ -215,72 +215,69 @@ fn random() {
     }
 }
 
-#[test]
-fn rooms() {
-    let image = file("campus.image");
-    let table = file("rooms.tsv");
+/// The rows of a table, on both.
+fn run_table(name: &str, run: impl Fn(&Calls, &[&[u8]], &mut Tally)) {
+    let table = file(name);
     for calls in &BOTH {
-        let mut tally = Tally::new(format!("rooms.tsv ({})", calls.name));
+        let mut tally = Tally::new(format!("{name} ({})", calls.name));
         for row in rows(&table) {
-            let mut list = vec![FILL; number(row[1])];
-            let reply = (calls.answer)(row[0], &image, &mut list);
-            tally.row(row[0], row[2], &line(reply, &list));
+            run(calls, &row, &mut tally);
         }
         tally.close();
     }
+}
+
+#[test]
+fn rooms() {
+    let image = file("campus.image");
+    run_table("rooms.tsv", |calls, row, tally| {
+        let mut list = vec![FILL; number(row[1])];
+        let reply = (calls.answer)(row[0], &image, &mut list);
+        tally.row(row[0], row[2], &line(reply, &list));
+    });
 }
 
 #[test]
 fn relations() {
     let image = file("campus.image");
-    let table = file("relations.tsv");
-    for calls in &BOTH {
-        let mut tally = Tally::new(format!("relations.tsv ({})", calls.name));
-        for row in rows(&table) {
-            let relation = match row[1] {
-                b"up" => Relation::Up,
-                b"down" => Relation::Down,
-                b"top" => Relation::Top,
-                b"bottom" => Relation::Bottom,
-                other => panic!("no relation: {}", other.escape_ascii()),
-            };
-            let mut list = vec![FILL; number(row[2])];
-            let record = number(row[0]) as u32;
-            let reply = (calls.relation)(&image, record, relation, &mut list);
-            assert_eq!(reply.relation, relation as u32);
-            tally.row(&row[..3].join(&b' '), row[3], &line(reply, &list));
-        }
-        tally.close();
-    }
+    run_table("relations.tsv", |calls, row, tally| {
+        let relation = match row[1] {
+            b"up" => Relation::Up,
+            b"down" => Relation::Down,
+            b"top" => Relation::Top,
+            b"bottom" => Relation::Bottom,
+            other => panic!("no relation: {}", other.escape_ascii()),
+        };
+        let mut list = vec![FILL; number(row[2])];
+        let record = number(row[0]) as u32;
+        let reply = (calls.relation)(&image, record, relation, &mut list);
+        assert_eq!(reply.relation, relation as u32);
+        tally.row(&row[..3].join(&b' '), row[3], &line(reply, &list));
+    });
 }
 
 #[test]
 fn defects() {
-    let table = file("defects.tsv");
-    for calls in &BOTH {
-        let mut tally = Tally::new(format!("defects.tsv ({})", calls.name));
-        for row in rows(&table) {
-            let image: Vec<u8> = row[0]
-                .chunks(2)
-                .map(|pair| u8::from_str_radix(std::str::from_utf8(pair).unwrap(), 16).unwrap())
-                .collect();
-            let (defect, place) = (calls.defect)(&image);
-            let expected = [row[1], row[2]].join(&b' ');
-            tally.row(row[0], &expected, format!("{defect} {place}").as_bytes());
+    run_table("defects.tsv", |calls, row, tally| {
+        let image: Vec<u8> = row[0]
+            .chunks(2)
+            .map(|pair| u8::from_str_radix(std::str::from_utf8(pair).unwrap(), 16).unwrap())
+            .collect();
+        let (defect, place) = (calls.defect)(&image);
+        let expected = [row[1], row[2]].join(&b' ');
+        tally.row(row[0], &expected, format!("{defect} {place}").as_bytes());
 
-            // The calls say the same, and a defective image has no parts.
-            let reply = (calls.answer)(b"/help", &image, &mut []);
-            assert_eq!((reply.defect, reply.place), (defect, place));
-            assert_eq!(reply.reason, if defect == 0 { 0 } else { 2 });
-            let reply = (calls.relation)(&image, 0, Relation::Up, &mut []);
-            assert_eq!((reply.defect, reply.place), (defect, place));
-            if defect != 0 {
-                assert!((calls.handle)(&image, 0).is_empty());
-                assert!((calls.name_of)(&image, 0).is_empty());
-            }
+        // The calls say the same, and a defective image has no parts.
+        let reply = (calls.answer)(b"/help", &image, &mut []);
+        assert_eq!((reply.defect, reply.place), (defect, place));
+        assert_eq!(reply.reason, if defect == 0 { 0 } else { 2 });
+        let reply = (calls.relation)(&image, 0, Relation::Up, &mut []);
+        assert_eq!((reply.defect, reply.place), (defect, place));
+        if defect != 0 {
+            assert!((calls.handle)(&image, 0).is_empty());
+            assert!((calls.name_of)(&image, 0).is_empty());
         }
-        tally.close();
-    }
+    });
 }
 
 /// "A whole image, 30 bytes, one AS block 12 to 15, handle A, name B, active"
