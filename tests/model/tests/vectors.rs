@@ -198,6 +198,12 @@ fn campus() {
     run_paths("campus");
 }
 
+/// "the examples of the RFCs, are run and compared"
+#[test]
+fn rfc() {
+    run_paths("rfc");
+}
+
 #[test]
 fn empty() {
     run_paths("empty");
@@ -229,12 +235,17 @@ fn run_table(name: &str, run: impl Fn(&Calls, &[&[u8]], &mut Tally)) {
 
 #[test]
 fn rooms() {
-    let image = file("campus.image");
-    run_table("rooms.tsv", |calls, row, tally| {
-        let mut list = vec![FILL; number(row[1])];
-        let reply = (calls.answer)(row[0], &image, &mut list);
-        tally.row(row[0], row[2], &line(reply, &list));
-    });
+    for (image, table) in [
+        ("campus.image", "rooms.tsv"),
+        ("rfc.image", "rfc.rooms.tsv"),
+    ] {
+        let image = file(image);
+        run_table(table, |calls, row, tally| {
+            let mut list = vec![FILL; number(row[1])];
+            let reply = (calls.answer)(row[0], &image, &mut list);
+            tally.row(row[0], row[2], &line(reply, &list));
+        });
+    }
 }
 
 #[test]
