@@ -25,7 +25,7 @@ done
 printf '#include "rdap.h"\n' | g++ -Wall -Wextra -Werror -Iinclude -x c++ -fsyntax-only - 2>"$out/c++.log"
 told "the header in C++" $?
 
-# document 01's example: one AS block, 12 to 15, handle A, name B, active
+# the image of S13.3: one AS block, 12 to 15, handle A, name B, active
 printf '\1\0\1\1\22\0\27\40\0\10\0\0\0\14\0\0\0\17\41\0\1A\42\0\1B\43\0\1\1' >"$out/example.image"
 answers /autnum/12 $'200 0 2 0 1 0 0\n0 A B' 0
 answers /autnum/16 '404 8 2 0 0 0 0' 1

@@ -7,7 +7,7 @@ from limpetvane import Answer, Kind, Library, Refused, Relation
 
 LIBRARY = Library(os.environ["RDAP_SO"])
 VECTORS = pathlib.Path(__file__).resolve().parents[2] / "tests" / "vectors"
-# document 01's image: one AS block, 12 to 15, handle A, name B
+# the image of S13.3: one AS block, 12 to 15, handle A, name B
 EXAMPLE = bytes.fromhex("01000101 120017 200008 0000000C 0000000F 21000141 22000142 23000101")
 
 
@@ -22,7 +22,7 @@ def line(call):
 
 class Calls(unittest.TestCase):
     def test_vectors(self):
-        for name in ("s", "small", "campus", "empty", "defective", "random1", "random2", "random3"):
+        for name in ("s", "small", "campus", "rfc", "empty", "defective", "random1", "random2", "random3"):
             image = (VECTORS / f"{name}.image").read_bytes()
             paths = (VECTORS / f"{name}.paths").read_bytes().split(b"\n")[:-1]
             expected = (VECTORS / f"{name}.expected").read_text().split("\n")[:-1]

@@ -1,4 +1,4 @@
-//! The vectors of tests/vectors and document 01's own image, through the safe functions.
+//! The vectors of tests/vectors and the image of S13.3, through the safe functions.
 use limpetvane::*;
 use std::fs;
 
@@ -37,7 +37,7 @@ fn line(answer: Result<Answer, Refusal>) -> String {
 
 #[test]
 fn vectors() {
-    for name in ["s", "small", "campus", "empty", "defective", "random1", "random2", "random3"] {
+    for name in ["s", "small", "campus", "rfc", "empty", "defective", "random1", "random2", "random3"] {
         let (image, paths) = (vector(&format!("{name}.image")), vector(&format!("{name}.paths")));
         let expected = String::from_utf8(vector(&format!("{name}.expected"))).unwrap();
         let paths: Vec<&[u8]> = paths[..paths.len() - 1].split(|b| *b == b'\n').collect();

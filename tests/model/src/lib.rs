@@ -1,4 +1,4 @@
-//! A plain model of document 01: what the calls answer, written to be read
+//! A plain model of docs/SPECIFICATION.md: what the calls answer, written to be read
 //! beside the document and not to be fast. Comments in quotation marks are the
 //! document's own sentences.
 //!

@@ -315,7 +315,7 @@ fn whole_image() {
     }
 }
 
-/// The cases of document 01 that stand below the table.
+/// The cases of S13.2.
 #[test]
 fn cases() {
     let image = file("s.image");
