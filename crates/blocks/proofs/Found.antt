@@ -2,7 +2,7 @@
 use Prim.Native.Nat.{ℕ}
 use mathlib.Core.Bool.{Bool}
 use mathlib.Core.Logic.{_⊎_, inl, inr, _↔_}
-use mathlib.Core.Path.{_≡_, refl, sym, subst}
+use mathlib.Core.Path.{_≡_}
 use mathlib.Core.List.{List, [], List·Memᴰ·not-nil}
 use native.Mathlib.Omega.{arith}
 use lib.Dec.{T}
@@ -11,11 +11,11 @@ use Rattle.address.specs.Ranges.{Range, covers, strictlyCovers, strictlyInside,
 use Rattle.blocks.specs.Blocks.{Block}
 use Rattle.blocks.specs.Defects.{accepted}
 use Rattle.blocks.specs.Relations.{isBest, select, smallest, largest, lookup, up, top, down, holdsSome, bottom}
-use Rattle.blocks.specs.Forest.{Registered, AllRegistered}
+use Rattle.blocks.specs.Forest.{AllRegistered}
 use Rattle.blocks.specs.Found.{NoBlock, Smallest, Largest, NextInside, Found}
 use Rattle.blocks.proofs.Geometry.{Proper, Covers, Strictly, proper, covers-iff, inside-iff}
 use Rattle.blocks.proofs.Laminar.{Laminar, accepted-laminar, around-or-inside}
-use Rattle.blocks.proofs.Select.{Best, Decides, Compares, inside-test, around-test, First, Last, None, first-such, last-such}
+use Rattle.blocks.proofs.Select.{Best, Decides, inside-test, around-test, First, Last, None, first-such, last-such}
 use Rattle.blocks.proofs.Answers.{Inside, covering, around, within, listed-iff, members, last-smallest, first-largest, answer-none}
 use Rattle.blocks.proofs.Forest.{selected}
 use Rattle.blocks.proofs.Bottom.{bottom-is, only-if}

@@ -14,7 +14,6 @@ use Rattle.blocks.proofs.Families.{family-accepted}
 use Rattle.blocks.proofs.Found as Blocks
 use Rattle.query.specs.declared.Relation.the-variants.{Up, Top}
 use Rattle.rdap.specs.Calls.{relationIn, relationOf}
-use Rattle.rdap.specs.Forest.{ImageForest}
 use Rattle.rdap.specs.Found.{ImageFound}
 use Rattle.rdap.proofs.Forest.{forest}
 
@@ -22,38 +21,32 @@ module _ (image : List ℕ) (records : List Record) (e : imageOf image ≡ sound
   families : (family : ℕ) → T (isBlock family) → Found (blocksOf family records)
   families family known = Blocks.found (blocksOf family records) (family-accepted family known image records e)
 
-  answers : ImageForest image records
-  answers = forest image records e
-
   module _ (family : ℕ) (b : Block) (places : ℕ) (known : T (isBlock family)) (m : b ∈ blocksOf family records) where
     up-of-missing : (relationOf image (b .number) Up places .reason ≡ 8) ↔ NoBlock (λ r. strictlyCovers r (b .range)) (blocksOf family records)
     up-of-missing =
-        Iff·trans (answers .next-answer Up (b .number) places .ends)
-        (rw (answers .families family known .by-number b m .0) (families family known .up-none (b .range)))
+        Iff·trans (forest image records e .next-answer Up (b .number) places .ends)
+        (rw (forest image records e .families family known .by-number b m .0) (families family known .up-none (b .range)))
 
     top-of-missing : (relationOf image (b .number) Top places .reason ≡ 8) ↔ NoBlock (λ r. strictlyCovers r (b .range)) (blocksOf family records)
     top-of-missing =
-        Iff·trans (answers .next-answer Top (b .number) places .ends)
-        (rw (answers .families family known .by-number b m .2) (families family known .top-none (b .range)))
+        Iff·trans (forest image records e .next-answer Top (b .number) places .ends)
+        (rw (forest image records e .families family known .by-number b m .2) (families family known .top-none (b .range)))
 
-  found-of : ImageFound image records
-  unfolding relationIn
-  found-of =
-      record {
-        families = families;
-        lookup-missing = λ path kind target places p.
-            let a = answers .lookup-answer path kind target places p in
-            Iff·trans (a .tells .ends) (families (target .family) (a .family) .lookup-none (target .range));
-        up-missing = λ path target places p.
-            let a = answers .first-answer path Up target places p in
-            Iff·trans (a .tells .ends) (families (target .family) (a .family) .up-none (target .range));
-        top-missing = λ path target places p.
-            let a = answers .first-answer path Top target places p in
-            Iff·trans (a .tells .ends) (families (target .family) (a .family) .top-none (target .range));
-        up-of-missing = up-of-missing;
-        top-of-missing = top-of-missing;
-      }
-
--- 404 exactly, and what is found
+-- What is found, and 404 exactly, for every accepted image.
 pub found : (image : List ℕ) (records : List Record) → imageOf image ≡ sound records → ImageFound image records
-found image records e = found-of image records e
+unfolding relationIn
+found image records e =
+    record {
+      families = families image records e;
+      lookup-missing = λ path kind target places p.
+          let a = forest image records e .lookup-answer path kind target places p in
+          Iff·trans (a .tells .ends) (families image records e (target .family) (a .family) .lookup-none (target .range));
+      up-missing = λ path target places p.
+          let a = forest image records e .first-answer path Up target places p in
+          Iff·trans (a .tells .ends) (families image records e (target .family) (a .family) .up-none (target .range));
+      top-missing = λ path target places p.
+          let a = forest image records e .first-answer path Top target places p in
+          Iff·trans (a .tells .ends) (families image records e (target .family) (a .family) .top-none (target .range));
+      up-of-missing = up-of-missing image records e;
+      top-of-missing = top-of-missing image records e;
+    }
