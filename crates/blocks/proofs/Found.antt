@@ -1,7 +1,7 @@
 -- The answers in the words of document 01: of the blocks that cover one range, each covers the later ones, so the smallest is inside all and the largest around all.
 use Prim.Native.Nat.{ℕ}
 use mathlib.Core.Bool.{Bool}
-use mathlib.Core.Logic.{_⊎_, inl, inr, _↔_}
+use mathlib.Core.Logic.{_⊎_, inl, inr, ⊎-elim, _↔_}
 use mathlib.Core.Path.{_≡_}
 use mathlib.Core.List.{List, [], List·Memᴰ·not-nil}
 use native.Mathlib.Omega.{arith}
@@ -15,51 +15,41 @@ use Rattle.blocks.specs.Forest.{AllRegistered}
 use Rattle.blocks.specs.Found.{NoBlock, Smallest, Largest, NextInside, Found}
 use Rattle.blocks.proofs.Geometry.{Proper, Covers, Strictly, proper, covers-iff, inside-iff}
 use Rattle.blocks.proofs.Laminar.{Laminar, accepted-laminar, around-or-inside}
-use Rattle.blocks.proofs.Select.{Best, Decides, inside-test, around-test, First, Last, None, first-such, last-such}
+use Rattle.blocks.proofs.Select.{Best, unless-better, Decides, Compares, inside-test, around-test, first-such, last-such}
 use Rattle.blocks.proofs.Answers.{Inside, covering, around, within, listed-iff, members, last-smallest, first-largest, answer-none}
 use Rattle.blocks.proofs.Forest.{selected}
 use Rattle.blocks.proofs.Bottom.{bottom-is, only-if}
 
 module _ {bs : List Block} (l : Laminar bs) where
-  -- no answer exactly if no block passes the test
+  -- no answer exactly if no block passes the test, since where one passes there is a best one
+  none-best :
+      {better : Range → Range → Bool} {Better : Range → Range → Type 0} {p : Range → Bool} {P : Range → Type 0} → Compares better Better → Decides p P
+      → ((b : Block) × (b ∈ bs) × Best Better P bs b) ⊎ NoBlock p bs → (select (isBest better p bs) bs ≡ []) ↔ NoBlock p bs
+  none-best t d best = (
+    λ e. ⊎-elim (λ r. absurd (List·Memᴰ·not-nil (rw e at (listed-iff l t d (r .1) .1 (r .2))))) (λ n. n) best,
+    λ n. answer-none l t d (λ c m h. n c m (d .iff (c .range) .1 h)),
+  )
+
   module _ {p : Range → Bool} {P : Range → Type 0} (d : Decides p P) where
     none-smallest : (smallest p bs ≡ []) ↔ NoBlock p bs
     unfolding smallest
-    none-smallest = (λ e. go e (last-such (λ b. p (b .range)) l), λ n. answer-none l inside-test d (λ c m h. n c m (d .iff (c .range) .1 h)))
-      where
-        go : select (isBest strictlyInside p bs) bs ≡ [] → Last (λ b. p (b .range)) bs ⊎ None (λ b. p (b .range)) bs → NoBlock p bs
-        go e (inl r) = absurd (List·Memᴰ·not-nil (rw e at (listed-iff l inside-test d (r .registered) .1 (last-smallest l d r))))
-        go e (inr n) = n
+    none-smallest = none-best inside-test d (⊎-elim (λ r. inl (r .block, r .registered, last-smallest l d r)) (λ n. inr n) (last-such (λ b. p (b .range)) l))
 
     none-largest : (largest p bs ≡ []) ↔ NoBlock p bs
     unfolding largest
-    none-largest = (λ e. go e (first-such (λ b. p (b .range)) l), λ n. answer-none l around-test d (λ c m h. n c m (d .iff (c .range) .1 h)))
-      where
-        go : select (isBest strictlyCovers p bs) bs ≡ [] → First (λ b. p (b .range)) bs ⊎ None (λ b. p (b .range)) bs → NoBlock p bs
-        go e (inl r) = absurd (List·Memᴰ·not-nil (rw e at (listed-iff l around-test d (r .registered) .1 (first-largest l d r))))
-        go e (inr n) = n
+    none-largest = none-best around-test d (⊎-elim (λ r. inl (r .block, r .registered, first-largest l d r)) (λ n. inr n) (first-such (λ b. p (b .range)) l))
 
     -- where the blocks that pass all cover one range
     module _ (q : Range) (pq : Proper q) (cover : (r : Range) → P r → Covers r q) where
       best-covered : {b : Block} → b ∈ bs → Best Inside P bs b → (c : Block) → c ∈ bs → T (p (c .range)) → T (covers (c .range) (b .range))
-      best-covered {b} m h c n t = covers-iff (c .range) (b .range) .1 (go (around-or-inside l q pq n m (cover (c .range) pc) (cover (b .range) (h .has))))
-        where
-          pc : P (c .range)
-          pc = d .iff (c .range) .0 t
-
-          go : Covers (c .range) (b .range) ⊎ Strictly (b .range) (c .range) → Covers (c .range) (b .range)
-          go (inl k) = k
-          go (inr k) = absurd (h .unbeaten c n pc k)
+      best-covered {b} m h c n t =
+          let pc : P (c .range) = d .iff (c .range) .0 t in
+          covers-iff (c .range) (b .range) .1 (unless-better h n pc (around-or-inside l q pq n m (cover (c .range) pc) (cover (b .range) (h .has))))
 
       best-covering : {b : Block} → b ∈ bs → Best Strictly P bs b → (c : Block) → c ∈ bs → T (p (c .range)) → T (covers (b .range) (c .range))
-      best-covering {b} m h c n t = covers-iff (b .range) (c .range) .1 (go (around-or-inside l q pq m n (cover (b .range) (h .has)) (cover (c .range) pc)))
-        where
-          pc : P (c .range)
-          pc = d .iff (c .range) .0 t
-
-          go : Covers (b .range) (c .range) ⊎ Strictly (c .range) (b .range) → Covers (b .range) (c .range)
-          go (inl k) = k
-          go (inr k) = absurd (h .unbeaten c n pc k)
+      best-covering {b} m h c n t =
+          let pc : P (c .range) = d .iff (c .range) .0 t in
+          covers-iff (b .range) (c .range) .1 (unless-better h n pc (around-or-inside l q pq m n (cover (b .range) (h .has)) (cover (c .range) pc)))
 
       smallest-is : (n : ℕ) → (n ∈ smallest p bs) ↔ Smallest p bs n
       unfolding smallest

@@ -22,13 +22,13 @@ module _ (image : List ℕ) (records : List Record) (e : imageOf image ≡ sound
   families family known = Blocks.found (blocksOf family records) (family-accepted family known image records e)
 
   module _ (family : ℕ) (b : Block) (places : ℕ) (known : T (isBlock family)) (m : b ∈ blocksOf family records) where
-    up-of-missing : (relationOf image (b .number) Up places .reason ≡ 8) ↔ NoBlock (λ r. strictlyCovers r (b .range)) (blocksOf family records)
-    up-of-missing =
+    third-up-missing : (relationOf image (b .number) Up places .reason ≡ 8) ↔ NoBlock (λ r. strictlyCovers r (b .range)) (blocksOf family records)
+    third-up-missing =
         Iff·trans (forest image records e .next-answer Up (b .number) places .ends)
         (rw (forest image records e .families family known .by-number b m .0) (families family known .up-none (b .range)))
 
-    top-of-missing : (relationOf image (b .number) Top places .reason ≡ 8) ↔ NoBlock (λ r. strictlyCovers r (b .range)) (blocksOf family records)
-    top-of-missing =
+    third-top-missing : (relationOf image (b .number) Top places .reason ≡ 8) ↔ NoBlock (λ r. strictlyCovers r (b .range)) (blocksOf family records)
+    third-top-missing =
         Iff·trans (forest image records e .next-answer Top (b .number) places .ends)
         (rw (forest image records e .families family known .by-number b m .2) (families family known .top-none (b .range)))
 
@@ -47,6 +47,6 @@ found image records e =
       top-missing = λ path target places p.
           let a = forest image records e .first-answer path Top target places p in
           Iff·trans (a .tells .ends) (families image records e (target .family) (a .family) .top-none (target .range));
-      up-of-missing = up-of-missing image records e;
-      top-of-missing = top-of-missing image records e;
+      third-up-missing = third-up-missing image records e;
+      third-top-missing = third-top-missing image records e;
     }

@@ -31,9 +31,9 @@ pub record ImageFound (image : List ℕ) (records : List Record) : Type 0 where
       (path : List ℕ) (target : Target) (places : ℕ) → PathAsks path (blockRelation Top target)
       → (answerOf path image places .reason ≡ 8) ↔ NoBlock (λ r. strictlyCovers r (target .range)) (blocksOf (target .family) records)
   -- The third call, for the record number of a block: exactly if no block strictly covers that block's range.
-  pub up-of-missing :
+  pub third-up-missing :
       (family : ℕ) (b : Block) (places : ℕ) → T (isBlock family) → b ∈ blocksOf family records
       → (relationOf image (b .number) Up places .reason ≡ 8) ↔ NoBlock (λ r. strictlyCovers r (b .range)) (blocksOf family records)
-  pub top-of-missing :
+  pub third-top-missing :
       (family : ℕ) (b : Block) (places : ℕ) → T (isBlock family) → b ∈ blocksOf family records
       → (relationOf image (b .number) Top places .reason ≡ 8) ↔ NoBlock (λ r. strictlyCovers r (b .range)) (blocksOf family records)
