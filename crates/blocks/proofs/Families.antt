@@ -1,10 +1,11 @@
 -- The blocks of each family of a sound image are accepted: rules 5, 6 and 7 on records, read as rules on the blocks of one tag.
-use Prim.Native.Nat.{ℕ, suc, _+_, _≤_, _<_}
-use mathlib.Core.Bool.{not, _&&_, _||_}
+use Prim.Native.Nat.{ℕ, zero, suc, _+_, _≤_, _<_}
+use mathlib.Core.Bool.{Bool, true, false, not, _&&_, _||_}
 use mathlib.Core.Logic.{_⊎_, inl, inr}
-use mathlib.Core.Path.{_≡_, refl, sym, subst, ap}
+use mathlib.Core.Path.{_≡_, refl, sym, subst, ap, _∙_}
 use mathlib.Core.List.{List, [], _∷_, List·Memᴰ·head, List·Memᴰ·tail, List·Memᴰ·not-nil}
 use native.Mathlib.Omega.{arith}
+use borrow.Author.Tests.{eq-eqb}
 use lib.Arith.{lt-of-le-ne}
 use lib.Dec.{T, T-not, not-T, leb, ltb, eqb, ltb→lt, lt→ltb, eqb→eq, eqb-refl}
 use lib.ListN.{length, drop}
@@ -17,6 +18,7 @@ use Rattle.records.specs.Judge.{inOrder, crossesAny}
 use Rattle.image.specs.Image.{sound, imageOf}
 use Rattle.image.proofs.Sound.{Accepted, Later, done, next, records-later}
 use Rattle.blocks.specs.Blocks.{Block, blocksFrom, blocksOf}
+use Rattle.blocks.specs.Forest.{Registered}
 use Rattle.blocks.specs.Defects as Defects
 use Rattle.blocks.specs.Defects.{admissible, acceptedAfter, accepted}
 use Rattle.blocks.proofs.Tests.{T-and, T-or, or-left, or-right, test, is-true, is-false, each}
@@ -186,3 +188,25 @@ block-record family n (r ∷ later) {b} m = go (test (eqb (r .tag) family)) (λ 
             record { place = 0; first = r; rest = later; numbered = omega arith; stands = refl; tagged = eqb→eq (r .tag) family q; ranged = ap (λ (y : Block). y .range) p }
         here (List·Memᴰ·tail k) = onward (rest k)
     go (inr x) rest = onward (rest (rw (is-false (eqb (r .tag) family) (T-not (eqb (r .tag) family) x)) at m))
+
+-- a record of the family is a block
+pub record-block :
+    (family n place : ℕ) (later : List Record) {r : Record} {rest : List Record} → drop place later ≡ r ∷ rest → r .tag ≡ family
+    → Registered (blocksFrom family n later) (n + place)
+record-block family n zero [] e t = absurd (let z : _≡_ {A = ℕ} 0 1 = cc in omega arith)
+record-block family n (suc place) [] e t = absurd (let z : _≡_ {A = ℕ} 0 1 = cc in omega arith)
+record-block family n zero (p ∷ later) {r} e t =
+    let f : p ≡ r = cc in
+    let g : p .tag ≡ family = ap (λ (x : Record). x .tag) f ∙ t in
+    record {
+      block = record { number = n; range = rangeOf p };
+      member = rw (eq-eqb (p .tag) family g) (List·Memᴰ·head refl);
+      numbered = omega arith;
+    }
+record-block family n (suc place) (p ∷ later) e t =
+    let s = record-block family (suc n) place later e t in
+    record { block = s .block; member = past (eqb (p .tag) family) (record { number = n; range = rangeOf p }) (s .member); numbered = omega (arith, s .numbered) }
+  where
+    past : (v : Bool) (x : Block) {b : Block} {bs : List Block} → b ∈ bs → b ∈ keep v x bs
+    past true x m = List·Memᴰ·tail m
+    past false x m = m

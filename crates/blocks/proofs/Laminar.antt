@@ -174,3 +174,14 @@ module _ {bs : List Block} (l : Laminar bs) where
       go (ahead (left k g)) = absurd (omega arith)
       go (behind (around k g)) = absurd (omega arith)
       go (behind (left k g)) = absurd (omega arith)
+
+  -- of two blocks that cover one range, one covers the other
+  pub around-or-inside : {a b : Block} (q : Range) → Proper q → a ∈ bs → b ∈ bs → Covers (a .range) q → Covers (b .range) q → Covers (a .range) (b .range) ⊎ Strictly (b .range) (a .range)
+  around-or-inside {a} {b} q pq m n ca cb = go (placed l m n)
+    where
+      go : Placed a b → Covers (a .range) (b .range) ⊎ Strictly (b .range) (a .range)
+      go (same p) = inl (rw p (omega arith))
+      go (ahead (around k g)) = inl (omega arith)
+      go (ahead (left k g)) = absurd (omega arith)
+      go (behind (around k g)) = inr g
+      go (behind (left k g)) = absurd (omega arith)
