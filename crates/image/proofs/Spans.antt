@@ -1,4 +1,5 @@
--- The second call in positions: the field that is read where a record starts has the part that the definition names (`text-read`); what stands where the record of the number starts has the part that the definition names; without such a record the part is empty.
+-- The second call in positions: what the code reads where a record starts is what the definition reads there (`text-read`), and has the part
+-- of the record of the number (`span-some`); without such a record the part is empty.
 use mathlib.Core.Path.{_≡_, refl, sym, _∙_, ap}
 use mathlib.Core.List.{List}
 use Prim.Native.Nat.{ℕ, _≤_, _<_}

@@ -1,11 +1,10 @@
--- Every record of a sound image stands where it starts.
+-- Every record of a sound image stands where it starts, and its handle and its name lie in it.
 use mathlib.Core.Path.{_≡_, sym, _∙_}
 use mathlib.Core.Bool.{true}
 use mathlib.Core.List.{List}
 use Prim.Native.Nat.{ℕ, _+_, _-_, _*_, _≤_, _<_}
 use native.Mathlib.Omega.{arith}
 use native.Mathlib.Nat.{le-trans}
-use borrow.Author.Tests.{le-leb}
 use lib.ListN.{length, take, drop, getD}
 use lib.Seq.{slice}
 use Rattle.address.specs.Address.{numbers, rangeAt, number-at}
@@ -14,6 +13,7 @@ use Rattle.fields.specs.declared.Field.the-variants.{Whole}
 use Rattle.fields.specs.Slices.{take-slice, drop-slice, part-slice}
 use Rattle.records.specs.Record.{Record, isBlock, widthOf, rangeFrom}
 use Rattle.records.specs.Place.{bytesOf, Inside}
+use Rattle.records.proofs.Shapes.{a-block}
 use Rattle.records.proofs.Laid.{Laid, laid}
 use Rattle.image.specs.Image.{imageOf}
 use Rattle.image.specs.Part.{recordsOf, textOf}
@@ -35,9 +35,7 @@ range-read s at w =
     let y : take w (drop (at + w) s) ≡ slice (at + w) (at + 2 * w) s = rw b at (part-slice (at + w) (at + 2 * w) s (omega arith)) in
     rw (number-at s at w, number-at s (at + w) w, x, y, take-slice w at (at + 2 * w) s (omega arith), drop-slice w at (at + 2 * w) s)
 
-block-of : (tag : ℕ) → 16 ≤ tag → tag ≤ 18 → isBlock tag ≡ true
-block-of tag h k = rw (le-leb 0x10 tag h, le-leb tag 0x12 k)
-
+-- the handle or the name of a record that lies in a field
 module _ {s : List ℕ} {tag start end : ℕ} {r : Record} (l : Laid s tag start end r) where
   text-laid : (which : Which) → bytesOf s (textIn which s (Whole tag start end)) ≡ textOf which r
   text-laid Handle = l .handle
@@ -55,7 +53,7 @@ standing s i h =
     let u : x .tag ≡ getD s (placeOf s i) 0 = field-tag s (placeOf s i) (length s) (x .tag) (x .start) (x .end) (x .field-here) in
     let v : x .start ≡ placeOf s i + 3 = sym (x .inside .after) in
     let w : placeOf s i + 3 + 3 ≡ placeOf s i + 6 = omega arith in
-    let block : x .tag ≤ 18 → isBlock (x .tag) ≡ true = block-of (x .tag) (x .accepted .low) in
+    let block : x .tag ≤ 18 → isBlock (x .tag) ≡ true = a-block (x .tag) (x .accepted .low) in
     record {
       r = x .r;
       end = x .end;
