@@ -38,9 +38,7 @@ textSpan which s at = textIn which s (fieldAt s at (length s))
 -- Where the handle or the name of a record starts and ends in the image; 0 and 0 if the image is defective or there is no such record.
 unfoldable pub spanOf : List ℕ → ℕ → Which → Span
 spanOf s n which =
-    cond (ltb n (length (recordsOf (imageOf s))))
-    (textSpan which s (placeOf s n))
-    (record { start = 0; end = 0 })
+    cond (ltb n (length (recordsOf (imageOf s)))) (textSpan which s (placeOf s n)) (record { start = 0; end = 0 })
 
 -- the second call in positions
 pub record PartSpan (s : List ℕ) (n : ℕ) (which : Which) (r : Span) : Type 0 where
