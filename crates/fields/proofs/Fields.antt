@@ -1,4 +1,4 @@
--- The field step by its tests, and a reader of a front of the image.
+-- The field step by its tests, and the steps of a reader; a reader of the image up to a position reads what ends there (`front-after`).
 use mathlib.Core.Path.{_≡_, refl, sym, _∙_}
 use mathlib.Core.List.{List}
 use Prim.Native.Nat.{ℕ, zero, suc, _+_, _-_, _*_, _≤_, _<_}
@@ -8,7 +8,7 @@ use borrow.Author.Tests.{lt-ltb, le-ltb, ltb-false}
 use lib.Dec.{ltb}
 use lib.ListN.{length, getD, take}
 use lib.Seq.{getD-take, length-take-le}
-use Rattle.fields.specs.Place.{fieldAt, passed}
+use Rattle.fields.specs.Place.{fieldAt, behind, passed, fieldAfter}
 use Rattle.fields.specs.declared.Field.{Field}
 use Rattle.fields.specs.declared.Field.the-variants.{Whole, Short}
 
@@ -39,37 +39,45 @@ module _ (s : List ℕ) (at end : ℕ) where
       let h : 3 ≤ end - at = ltb-false (end - at) 3 e in
       rw (getD-take end s at 0 (omega arith), getD-take end s (at + 1) 0 (omega arith), getD-take end s (at + 2) 0 (omega arith))
 
-  pub front : end ≤ length s → fieldAt (take end s) at (length (take end s)) ≡ fieldAt s at end
-  front h = rw (length-take-le end s h) (by-room (ltb (end - at) 3) refl)
+  front : fieldAt (take end s) at end ≡ fieldAt s at end
+  front = by-room (ltb (end - at) 3) refl
+
+front-passed : (s : List ℕ) (n at end : ℕ) → passed (take end s) n at end ≡ passed s n at end
+unfolding passed
+front-passed s zero at end = refl
+front-passed s (suc n) at end = rw (front s at end) (front-passed s n (behind (fieldAt s at end) at) end)
+
+pub front-after : (s : List ℕ) (n at end : ℕ) → end ≤ length s → fieldAfter (take end s) n at (length (take end s)) ≡ fieldAfter s n at end
+front-after s n at end h = rw (length-take-le end s h, front-passed s n at end) (front s (passed s n at end) end)
 
 -- the steps of a reader
-pub stays : (s : List ℕ) (n at : ℕ) → fieldAt s at (length s) ≡ Short → passed s n at ≡ at
-unfolding passed
-stays s zero at e = refl
-stays s (suc n) at e = rw e (stays s n at e)
-
-module _ (s : List ℕ) (m at : ℕ) (f : Field) (e : f ≡ fieldAt s at (length s)) where
-  pub stops : f ≡ Short → at ≡ passed s m at
-  stops k = sym (stays s m at (sym e ∙ k))
-
-  pub goes-on : (tag start end : ℕ) → f ≡ Whole tag start end → passed s (suc m) at ≡ passed s m end
+module _ (s : List ℕ) (end : ℕ) where
+  stays : (n at : ℕ) → fieldAt s at end ≡ Short → passed s n at end ≡ at
   unfolding passed
-  goes-on tag start end k = rw (← e, k)
+  stays zero at e = refl
+  stays (suc n) at e = rw e (stays n at e)
 
--- a walk of n steps of which i are done
-pub none-done : (s : List ℕ) (n at : ℕ) → passed s (n - 0) at ≡ passed s n at
-none-done s n at =
-    let d : n - 0 ≡ n = omega arith in
-    rw d
+  -- a walk of n steps of which i are done
+  pub none-done : (n at : ℕ) → passed s (n - 0) at end ≡ passed s n at end
+  none-done n at =
+      let d : n - 0 ≡ n = omega arith in
+      rw d
 
-pub steps : (s : List ℕ) (n i at : ℕ) (f : Field) → f ≡ fieldAt s at (length s) → (tag start end : ℕ) → f ≡ Whole tag start end → i < n
-    → passed s (n - (i + 1)) end ≡ passed s (n - i) at
-steps s n i at f e tag start end k h =
-    let d : n - i ≡ suc (n - (i + 1)) = omega arith in
-    rw d (sym (goes-on s (n - (i + 1)) at f e tag start end k))
+  pub none-left : (n i at to : ℕ) → n ≤ i → passed s (n - i) to end ≡ passed s n at end → to ≡ passed s n at end
+  unfolding passed
+  none-left n i at to h e =
+      let d : n - i ≡ 0 = omega arith in
+      rw d at e
 
-pub none-left : (s : List ℕ) (n i at to : ℕ) → n ≤ i → passed s (n - i) to ≡ passed s n at → to ≡ passed s n at
-unfolding passed
-none-left s n i at to h e =
-    let d : n - i ≡ 0 = omega arith in
-    rw d at e
+  module _ (at : ℕ) (f : Field) (e : f ≡ fieldAt s at end) where
+    pub stops : (m : ℕ) → f ≡ Short → at ≡ passed s m at end
+    stops m k = sym (stays m at (sym e ∙ k))
+
+    goes-on : (m tag from to : ℕ) → f ≡ Whole tag from to → passed s (suc m) at end ≡ passed s m to end
+    unfolding passed
+    goes-on m tag from to k = rw (← e, k)
+
+    pub steps : (n i tag from to : ℕ) → f ≡ Whole tag from to → i < n → passed s (n - (i + 1)) to end ≡ passed s (n - i) at end
+    steps n i tag from to k h =
+        let d : n - i ≡ suc (n - (i + 1)) = omega arith in
+        rw d (sym (goes-on (n - (i + 1)) tag from to k))

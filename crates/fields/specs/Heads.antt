@@ -10,7 +10,7 @@ use lib.ListN.{length, getD}
 use lib.Seq.{slice, slice-cons, length-slice}
 use lib.Dec.{ltb}
 use Rattle.fields.specs.Field.{short, headOf}
-use Rattle.fields.specs.Place.{fieldAt, headAt, lengthAt, FieldInside, behind, passed}
+use Rattle.fields.specs.Place.{fieldAt, headAt, lengthAt, FieldInside, behind, passed, fieldAfter}
 use Rattle.fields.specs.Slices.{take-slice, drop-slice}
 use Rattle.fields.specs.declared.Field.the-variants.{Whole, Short}
 
@@ -63,8 +63,8 @@ module _ (s : List ℕ) (at end t a b : ℕ) where
   pub field-tag : fieldAt s at end ≡ Whole t a b → t ≡ getD s at 0
   field-tag e = let k = stands e .is in cc
 
-  pub field-inside : at ≤ end → fieldAt s at end ≡ Whole t a b → FieldInside at end a b
-  field-inside h e =
+  pub field-inside : fieldAt s at end ≡ Whole t a b → FieldInside at end a b
+  field-inside e =
       let w = stands e in
       let k : Whole (getD s at 0) (at + 3) (at + 3 + lengthAt s at) ≡ Whole t a b = w .is in
       let x : at + 3 ≡ a = cc in
@@ -72,7 +72,7 @@ module _ (s : List ℕ) (at end t a b : ℕ) where
       record { after = x; forward = omega arith; within = omega (arith, w .room, w .fits) }
 
 -- the last of a reader's steps
-pub passed-next : (s : List ℕ) (n at : ℕ) → passed s (suc n) at ≡ behind (fieldAt s (passed s n at) (length s)) (passed s n at)
+pub passed-next : (s : List ℕ) (n at end : ℕ) → passed s (suc n) at end ≡ behind (fieldAfter s n at end) (passed s n at end)
 unfolding passed
-passed-next s zero at = refl
-passed-next s (suc n) at = passed-next s n (behind (fieldAt s at (length s)) at)
+passed-next s zero at end = refl
+passed-next s (suc n) at end = passed-next s n (behind (fieldAt s at end) at) end

@@ -4,7 +4,7 @@ use mathlib.Core.List.{List}
 use Prim.Native.Nat.{ℕ, zero, suc, _+_, _-_, _*_, _≤_}
 use mathlib.Core.Path.{_≡_}
 use lib.Dec.{ltb}
-use lib.ListN.{length, getD}
+use lib.ListN.{getD}
 use lib.Seq.{slice}
 use Rattle.fields.specs.Field.{Head, field, short}
 use Rattle.fields.specs.declared.Field.{Field}
@@ -36,7 +36,11 @@ abbrev pub behind : Field → ℕ → ℕ
 behind (Whole tag start end) at = end
 behind Short at = at
 
--- the position n fields on
-unfoldable pub passed : List ℕ → ℕ → ℕ → ℕ
-passed s zero at = at
-passed s (suc n) at = passed s n (behind (fieldAt s at (length s)) at)
+-- the position n fields on, in what ends at `end`
+unfoldable pub passed : List ℕ → ℕ → ℕ → ℕ → ℕ
+passed s zero at end = at
+passed s (suc n) at end = passed s n (behind (fieldAt s at end) at) end
+
+-- the field there
+abbrev pub fieldAfter : List ℕ → ℕ → ℕ → ℕ → Field
+fieldAfter s n at end = fieldAt s (passed s n at end) end

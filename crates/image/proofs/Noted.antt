@@ -25,7 +25,7 @@ pub record Noted (s places : List ℕ) (count at : ℕ) : Type 0 where
 
 pub place-next : (s : List ℕ) (i : ℕ) → placeOf s (i + 1) ≡ behind (fieldAt s (placeOf s i) (length s)) (placeOf s i)
 unfolding placeOf
-place-next s i = rw (add-one i) (passed-next s i 4)
+place-next s i = rw (add-one i) (passed-next s i 4 (length s))
 
 module _ (s places : List ℕ) where
   pub note-none : length places ≡ 4096 → Noted s places 0 4

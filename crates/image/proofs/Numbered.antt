@@ -173,7 +173,7 @@ module _ (s : List ℕ) (n : ℕ) (h : n < length (recordsOf (imageOf s))) where
       same-head = rw e at head-here
 
       pass-inside : FieldInside at (length s) a b
-      pass-inside = field-inside s at (length s) t a b (w .inside) e
+      pass-inside = field-inside s at (length s) t a b e
 
       pass-next : Passed s (i + 1) b
       pass-next =
@@ -213,14 +213,14 @@ module _ (s : List ℕ) (n : ℕ) (h : n < length (recordsOf (imageOf s))) where
     by-field Short e = absurd (pass-short e)
     by-field (Whole t a b) e = stood t a b e
 
-  passes : (k i at : ℕ) → i + k ≡ n → Passed s i at → Passed s n (passed s k at)
+  passes : (k i at : ℕ) → i + k ≡ n → Passed s i at → Passed s n (passed s k at (length s))
   unfolding passed
   passes zero i at e w =
       let d : i ≡ n = omega arith in
       rw d at w
   passes (suc k) i at e w = by-field (fieldAt s at (length s)) refl (λ b. passes k (i + 1) b (omega arith))
     where
-      by-field : (f : Field) → fieldAt s at (length s) ≡ f → ((b : ℕ) → Passed s (i + 1) b → Passed s n (passed s k b)) → Passed s n (passed s k (behind f at))
+      by-field : (f : Field) → fieldAt s at (length s) ≡ f → ((b : ℕ) → Passed s (i + 1) b → Passed s n (passed s k b (length s))) → Passed s n (passed s k (behind f at) (length s))
       by-field Short g next = absurd (pass-short i at w (omega arith) g)
       by-field (Whole t a b) g next = next b (pass-next i at w (omega arith) t a b g)
 

@@ -28,7 +28,7 @@ module _ (s : List ℕ) (at : ℕ) (q : at ≤ length s) (f : Field) (e : f ≡ 
 
   module _ (tag a b : ℕ) (g : f ≡ Whole tag a b) where
     pub read-inside : FieldInside at (length s) a b
-    read-inside = field-inside s at (length s) tag a b q (sym e ∙ g)
+    read-inside = field-inside s at (length s) tag a b (sym e ∙ g)
 
     pub read-head : headOf (slice at (length s) s) ≡ field tag (slice a b s) (slice b (length s) s)
     read-head = sym (rw (← e, g) at (head-slice s at (length s) q (le-refl _)))

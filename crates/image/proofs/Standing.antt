@@ -1,23 +1,27 @@
--- Every record of a sound image stands where it starts.
+-- Every record of a sound image stands where it starts, and its handle and its name lie in it.
 use mathlib.Core.Path.{_≡_, sym, _∙_}
 use mathlib.Core.Bool.{true}
 use mathlib.Core.List.{List}
 use Prim.Native.Nat.{ℕ, _+_, _-_, _*_, _≤_, _<_}
 use native.Mathlib.Omega.{arith}
 use native.Mathlib.Nat.{le-trans}
-use borrow.Author.Tests.{le-leb}
 use lib.ListN.{length, take, drop, getD}
 use lib.Seq.{slice}
 use Rattle.address.specs.Address.{numbers, rangeAt, number-at}
-use Rattle.fields.specs.Heads.{field-tag}
+use Rattle.fields.specs.Heads.{field-tag, field-inside}
+use Rattle.fields.specs.declared.Field.the-variants.{Whole}
 use Rattle.fields.specs.Slices.{take-slice, drop-slice, part-slice}
-use Rattle.records.specs.Record.{isBlock, widthOf, rangeFrom}
-use Rattle.records.proofs.Laid.{laid}
+use Rattle.records.specs.Record.{Record, isBlock, widthOf, rangeFrom}
+use Rattle.records.specs.Place.{bytesOf, Inside}
+use Rattle.records.proofs.Shapes.{a-block}
+use Rattle.records.proofs.Laid.{Laid, laid}
 use Rattle.image.specs.Image.{imageOf}
-use Rattle.image.specs.Part.{recordsOf}
+use Rattle.image.specs.Part.{recordsOf, textOf}
 use Rattle.image.specs.Place.{verdictOf}
-use Rattle.image.specs.Entries.{placeOf}
+use Rattle.image.specs.Entries.{placeOf, textIn, textSpan}
 use Rattle.image.specs.Index.{tagOf, Standing, Indexed}
+use Rattle.image.specs.declared.Which.{Which}
+use Rattle.image.specs.declared.Which.the-variants.{Handle, Name}
 use Rattle.image.specs.declared.Verdict.the-variants.{Sound}
 use Rattle.image.proofs.Soundness.{counted}
 use Rattle.image.proofs.Numbered.{stands-here}
@@ -31,21 +35,30 @@ range-read s at w =
     let y : take w (drop (at + w) s) ≡ slice (at + w) (at + 2 * w) s = rw b at (part-slice (at + w) (at + 2 * w) s (omega arith)) in
     rw (number-at s at w, number-at s (at + w) w, x, y, take-slice w at (at + 2 * w) s (omega arith), drop-slice w at (at + 2 * w) s)
 
-block-of : (tag : ℕ) → 16 ≤ tag → tag ≤ 18 → isBlock tag ≡ true
-block-of tag h k = rw (le-leb 0x10 tag h, le-leb tag 0x12 k)
+-- the handle or the name of a record that lies in a field
+module _ {s : List ℕ} {tag start end : ℕ} {r : Record} (l : Laid s tag start end r) where
+  text-laid : (which : Which) → bytesOf s (textIn which s (Whole tag start end)) ≡ textOf which r
+  text-laid Handle = l .handle
+  text-laid Name = l .name
+
+  inside-laid : (which : Which) → Inside end (textIn which s (Whole tag start end))
+  inside-laid Handle = l .handle-inside
+  inside-laid Name = l .name-inside
 
 pub standing : (s : List ℕ) (i : ℕ) → i < length (recordsOf (imageOf s)) → Standing s i
-unfolding tagOf
+unfolding tagOf textSpan
 standing s i h =
     let x = stands-here s i h in
     let l = laid s (x .tag) (x .start) (x .end) (x .r) (x .inside .forward) (x .inside .within) (x .accepted .parsed) in
     let u : x .tag ≡ getD s (placeOf s i) 0 = field-tag s (placeOf s i) (length s) (x .tag) (x .start) (x .end) (x .field-here) in
     let v : x .start ≡ placeOf s i + 3 = sym (x .inside .after) in
     let w : placeOf s i + 3 + 3 ≡ placeOf s i + 6 = omega arith in
-    let block : x .tag ≤ 18 → isBlock (x .tag) ≡ true = block-of (x .tag) (x .accepted .low) in
+    let block : x .tag ≤ 18 → isBlock (x .tag) ≡ true = a-block (x .tag) (x .accepted .low) in
     record {
       r = x .r;
+      end = x .end;
       here = x .listed;
+      field-here = rw (← u, ← v) (x .field-here);
       tag = sym u ∙ sym (l .own-tag);
       low = rw (← u) (x .accepted .low);
       high = rw (← u) (x .accepted .high);
@@ -53,15 +66,20 @@ standing s i h =
       range-inside = rw (← u, ← w, ← v) (λ z. le-trans (l .range-inside (block z)) (x .inside .within));
       range = rw (← u, ← w, ← v) (λ z. l .range (block z));
       range-numbers = rw (← u, ← w, ← v) (λ z. range-read s (x .start + 3) (widthOf (x .tag)) ∙ rw (l .range (block z), l .own-tag));
-      handle = rw (← u, ← v) (l .handle);
-      handle-inside = rw (← u, ← v) (l .handle-inside);
-      name = rw (← u, ← v) (l .name);
-      name-inside = rw (← u, ← v) (l .name-inside);
+      text = rw (x .field-here) (text-laid l);
+      text-inside = rw (x .field-here) (inside-laid l);
     }
 
 -- the same by the verdict
 pub standing-of : (s : List ℕ) (count : ℕ) → verdictOf (imageOf s) ≡ Sound count → (i : ℕ) → i < count → Standing s i
 standing-of s count v i h = standing s i (omega (arith, counted (imageOf s) count v))
+
+-- the handle or the name lies in the record, and so in the image
+pub text-in-image : {s : List ℕ} {i : ℕ} → Standing s i → (which : Which) → Inside (length s) (textSpan which s (placeOf s i))
+text-in-image {s} {i} x which =
+    let k = field-inside s (placeOf s i) (length s) _ _ _ (x .field-here) in
+    let l = x .text-inside which in
+    record { forward = l .forward; within = le-trans (l .within) (k .within) }
 
 -- by the index: the place noted of a record holds its tag
 module _ (s places : List ℕ) (count : ℕ) (x : Indexed s count places) where

@@ -133,7 +133,7 @@ module _ {s : List ℕ} {p : Layout} {stack : List ℕ} {depth count : ℕ} {q :
   earlier = c .walked .earlier
 
   pub field-here : FieldInside (p .end) (length s) (q .start) (q .end)
-  field-here = field-inside s (p .end) (length s) (q .tag) (q .start) (q .end) (c .walked .inside) (c .here .stands)
+  field-here = field-inside s (p .end) (length s) (q .tag) (q .start) (q .end) (c .here .stands)
 
   pub behind-here : q .end ≡ behind (fieldAt s (p .end) (length s)) (p .end)
   behind-here = rw (c .here .stands)

@@ -4,9 +4,12 @@ use mathlib.Core.Path.{_≡_, refl}
 use mathlib.Core.List.{List}
 use Prim.Native.Nat.{ℕ, _+_}
 use lib.Dec.{ltb}
-use lib.ListN.{length, getD}
+use lib.ListN.{length}
 use lib.Seq.{slice}
-use Rattle.fields.specs.Place.{passed}
+use denote.Ref.{RefT, now}
+use Rattle.fields.specs.Place.{fieldAt, passed}
+use Rattle.fields.specs.declared.Field.{Field}
+use Rattle.fields.specs.declared.Field.the-variants.{Whole, Short}
 use Rattle.records.specs.Place.{handleSpan, nameSpan, Inside}
 use Rattle.records.specs.declared.Span.{Span}
 use Rattle.image.specs.Image.{imageOf}
@@ -16,25 +19,35 @@ use Rattle.image.specs.declared.Which.the-variants.{Handle, Name}
 
 -- where record i stands: i fields after the start of four bytes
 unfoldable pub placeOf : List ℕ → ℕ → ℕ
-placeOf s i = passed s i 4
+placeOf s i = passed s i 4 (length s)
 
 pub place-start : (s : List ℕ) → 4 ≡ placeOf s 0
 unfolding placeOf passed
 place-start s = refl
 
-abbrev pub textSpan : Which → List ℕ → ℕ → ℕ → Span
-textSpan Handle s tag start = handleSpan s tag start
-textSpan Name s tag start = nameSpan s tag start
+-- the handle or the name of the record that a field is; 0 and 0 if it is none
+abbrev pub textIn : Which → List ℕ → Field → Span
+textIn which s Short = record { start = 0; end = 0 }
+textIn Handle s (Whole tag start end) = handleSpan s tag start end
+textIn Name s (Whole tag start end) = nameSpan s tag start end
+
+-- of the record at a position
+unfoldable pub textSpan : Which → List ℕ → ℕ → Span
+textSpan which s at = textIn which s (fieldAt s at (length s))
 
 -- Where the handle or the name of a record starts and ends in the image; 0 and 0 if the image is defective or there is no such record.
 unfoldable pub spanOf : List ℕ → ℕ → Which → Span
 spanOf s n which =
-    cond (ltb n (length (recordsOf (imageOf s))))
-    (textSpan which s (getD s (placeOf s n) 0) (placeOf s n + 3))
-    (record { start = 0; end = 0 })
+    cond (ltb n (length (recordsOf (imageOf s)))) (textSpan which s (placeOf s n)) (record { start = 0; end = 0 })
 
 -- the second call in positions
 pub record PartSpan (s : List ℕ) (n : ℕ) (which : Which) (r : Span) : Type 0 where
   pub same : r ≡ spanOf s n which
   pub text : slice (r .start) (r .end) s ≡ excerptOf (imageOf s) n which
   pub inside : Inside (length s) r
+
+-- A part of a slice, not a copy: it has these bytes, lies in the same memory, and starts so far behind the start of the whole.
+pub record PartFrom (whole : RefT (List ℕ)) (start : ℕ) (bytes : List ℕ) (part : RefT (List ℕ)) : Type 0 where
+  pub same : now part ≡ bytes
+  pub memory : part .ptr .0 ≡ whole .ptr .0
+  pub offset : part .ptr .1 ≡ whole .ptr .1 + start

@@ -6,23 +6,28 @@ use lib.ListN.{length, drop, getD}
 use lib.Seq.{slice}
 use Rattle.address.specs.Address.{numbers, rangeAt}
 use Rattle.records.specs.Record.{Record, widthOf, rangeOf}
-use Rattle.records.specs.Place.{bytesOf, handleSpan, nameSpan, Inside}
+use Rattle.fields.specs.Place.{fieldAt}
+use Rattle.fields.specs.declared.Field.the-variants.{Whole}
+use Rattle.records.specs.Place.{bytesOf, Inside}
 use Rattle.image.specs.Image.{imageOf}
-use Rattle.image.specs.Part.{recordsOf}
-use Rattle.image.specs.Entries.{placeOf}
+use Rattle.image.specs.Part.{recordsOf, textOf}
+use Rattle.image.specs.Entries.{placeOf, textSpan}
 use Rattle.image.specs.Place.{verdictOf}
 use Rattle.image.specs.declared.Verdict.{Verdict}
 use Rattle.image.specs.declared.Verdict.the-variants.{Sound}
 use Rattle.image.specs.declared.Run.{Run}
+use Rattle.image.specs.declared.Which.{Which}
 
 -- the tag of record i
 unfoldable pub tagOf : List ℕ → ℕ → ℕ
 tagOf s i = getD s (placeOf s i) 0
 
--- What stands where record i starts. `r` is the record. Proved of every record of a sound image in proofs/Standing.antt.
+-- What stands where record i starts. `r` is the record, and it ends at `end`. Proved of every record of a sound image in proofs/Standing.antt.
 pub record Standing (s : List ℕ) (i : ℕ) : Type 0 where
   pub r : Record
+  pub end : ℕ
   pub here : drop i (recordsOf (imageOf s)) ≡ r ∷ drop (i + 1) (recordsOf (imageOf s))
+  pub field-here : fieldAt s (placeOf s i) (length s) ≡ Whole (tagOf s i) (placeOf s i + 3) end
   pub tag : tagOf s i ≡ r .tag
   pub low : 16 ≤ tagOf s i
   pub high : tagOf s i ≤ 21
@@ -30,10 +35,8 @@ pub record Standing (s : List ℕ) (i : ℕ) : Type 0 where
   pub range-inside : tagOf s i ≤ 18 → placeOf s i + 6 + 2 * widthOf (tagOf s i) ≤ length s
   pub range : tagOf s i ≤ 18 → slice (placeOf s i + 6) (placeOf s i + 6 + 2 * widthOf (tagOf s i)) s ≡ r .range
   pub range-numbers : tagOf s i ≤ 18 → numbers (rangeAt s (placeOf s i + 6) (widthOf (tagOf s i))) ≡ rangeOf r
-  pub handle : bytesOf s (handleSpan s (tagOf s i) (placeOf s i + 3)) ≡ r .handle
-  pub handle-inside : Inside (length s) (handleSpan s (tagOf s i) (placeOf s i + 3))
-  pub name : bytesOf s (nameSpan s (tagOf s i) (placeOf s i + 3)) ≡ r .name
-  pub name-inside : Inside (length s) (nameSpan s (tagOf s i) (placeOf s i + 3))
+  pub text : (which : Which) → bytesOf s (textSpan which s (placeOf s i)) ≡ textOf which r
+  pub text-inside : (which : Which) → Inside end (textSpan which s (placeOf s i))
 
 -- The image is sound and has so many records, and `places` says where each starts.
 pub record Indexed (s : List ℕ) (count : ℕ) (places : List ℕ) : Type 0 where

@@ -1,16 +1,16 @@
 -- Offset and length of a part fit 32 bits: a record lies in a sound image, which has at most 262,144 bytes, and else both are 0.
-use Prim.Native.Nat.{ℕ, _+_, _≤_, _<_}
+use Prim.Native.Nat.{ℕ, _≤_, _<_}
 use mathlib.Core.Bool.{Bool, true, false, cond}
 use mathlib.Core.Path.{_≡_, refl}
 use mathlib.Core.List.{List}
 use native.Mathlib.Omega.{arith}
 use borrow.Author.Tests.{ltb-true}
 use lib.Dec.{ltb}
-use lib.ListN.{length, getD}
+use lib.ListN.{length}
 use Rattle.records.specs.declared.Span.{Span}
 use Rattle.image.specs.Image.{Image, sound, defective, imageOf}
 use Rattle.image.specs.Part.{recordsOf}
-use Rattle.image.specs.Entries.{spanOf, textSpan, placeOf, PartSpan}
+use Rattle.image.specs.Entries.{spanOf, PartSpan}
 use Rattle.image.specs.declared.Which.{Which}
 use Rattle.image.proofs.Soundness.{few}
 
@@ -23,9 +23,8 @@ with-record s n h = go (imageOf s) refl h
 
 pub end-small : {s : List ℕ} {n : ℕ} {which : Which} {r : Span} → PartSpan s n which r → r .end ≤ 262144
 unfolding spanOf
-end-small {s} {n} {which} {r} h = go (ltb n (length (recordsOf (imageOf s)))) refl (h .same)
+end-small {s} {n} {which} {r} h = go (ltb n (length (recordsOf (imageOf s)))) refl _ (h .same)
   where
-    go : (t : Bool) → ltb n (length (recordsOf (imageOf s))) ≡ t
-        → r ≡ cond t (textSpan which s (getD s (placeOf s n) 0) (placeOf s n + 3)) (record { start = 0; end = 0 }) → r .end ≤ 262144
-    go true e k = let l = with-record s n (ltb-true _ _ e) in omega (arith, h .inside)
-    go false e k = rw k (omega arith)
+    go : (t : Bool) → ltb n (length (recordsOf (imageOf s))) ≡ t → (x : Span) → r ≡ cond t x (record { start = 0; end = 0 }) → r .end ≤ 262144
+    go true e x k = let l = with-record s n (ltb-true _ _ e) in omega (arith, h .inside)
+    go false e x k = rw k (omega arith)

@@ -4,6 +4,7 @@ use mathlib.Core.Bool.{Bool, true, false, false≢true}
 use mathlib.Core.List.{List}
 use Prim.Native.Nat.{ℕ, suc, _+_, _-_, _*_, _≤_}
 use native.Mathlib.Omega.{arith}
+use native.Mathlib.Nat.{le-refl}
 use lib.ListN.{length}
 use lib.Seq.{slice}
 use Rattle.fields.specs.Place.{passed}
@@ -17,19 +18,19 @@ pub record Laid (s : List ℕ) (tag start end : ℕ) (r : Record) : Type 0 where
   pub own-tag : r .tag ≡ tag
   pub range-inside : isBlock tag ≡ true → start + 3 + 2 * widthOf tag ≤ end
   pub range : isBlock tag ≡ true → slice (start + 3) (start + 3 + 2 * widthOf tag) s ≡ r .range
-  pub handle : bytesOf s (handleSpan s tag start) ≡ r .handle
-  pub handle-inside : Inside (length s) (handleSpan s tag start)
-  pub name : bytesOf s (nameSpan s tag start) ≡ r .name
-  pub name-inside : Inside (length s) (nameSpan s tag start)
+  pub handle : bytesOf s (handleSpan s tag start end) ≡ r .handle
+  pub handle-inside : Inside end (handleSpan s tag start end)
+  pub name : bytesOf s (nameSpan s tag start end) ≡ r .name
+  pub name-inside : Inside end (nameSpan s tag start end)
 
 -- a reader passes a field that stands, and finds one
-module _ (s : List ℕ) (tag at to : ℕ) (f : Stands s tag at to) (h : to ≤ length s) where
-  pass-one : (n : ℕ) → passed s (suc n) at ≡ passed s n to
+module _ (s : List ℕ) (tag at to : ℕ) (f : Stands s tag at to) (end : ℕ) (h : to ≤ end) where
+  pass-one : (n : ℕ) → passed s (suc n) at end ≡ passed s n to end
   unfolding passed
-  pass-one n = rw (field-there s tag at to f (length s) h)
+  pass-one n = rw (field-there s tag at to f end h)
 
-  span-at : (start n : ℕ) → passed s n start ≡ at → innerSpan s start n ≡ spanFromTo (at + 3) to
-  span-at start n e = rw (e, field-there s tag at to f (length s) h)
+  span-at : (start n : ℕ) → passed s n start end ≡ at → innerSpan s start end n ≡ spanFromTo (at + 3) to
+  span-at start n e = rw (e, field-there s tag at to f end h)
 
 same-record : (p r : Record) → whole p ≡ whole r → p ≡ r
 same-record p r e = cc
@@ -45,10 +46,10 @@ module _ (s : List ℕ) (tag start end : ℕ) (r : Record) (p : start ≤ end) (
     by-named : Laid s tag start end r
     unfolding handleSpan nameSpan passed
     by-named =
-        let m : middle ≤ length s = omega (arith, t .name .ends) in
-        let h : innerSpan s start 0 ≡ spanFromTo (start + 3) middle = span-at s 0x21 start middle (t .handle) m start 0 refl in
-        let n : innerSpan s start 1 ≡ spanFromTo (middle + 3) end =
-        span-at s 0x22 middle end (t .name) q start 1 (pass-one s 0x21 start middle (t .handle) m 0) in
+        let m : middle ≤ end = omega (arith, t .name .ends) in
+        let h : innerSpan s start end 0 ≡ spanFromTo (start + 3) middle = span-at s 0x21 start middle (t .handle) end m start 0 refl in
+        let n : innerSpan s start end 1 ≡ spanFromTo (middle + 3) end =
+        span-at s 0x22 middle end (t .name) end (le-refl end) start 1 (pass-one s 0x21 start middle (t .handle) end m 0) in
         record {
           own-tag = sym (ap (λ (z : Record). z .tag) is-named);
           range-inside = λ z. absurd (false≢true (sym b ∙ z));
@@ -56,7 +57,7 @@ module _ (s : List ℕ) (tag start end : ℕ) (r : Record) (p : start ≤ end) (
           handle = rw (b, h) (rw b at (ap (λ (z : Record). z .handle) is-named));
           handle-inside = rw (b, h) (record { forward = omega (arith, t .handle .ends); within = m });
           name = rw (b, n) (rw b at (ap (λ (z : Record). z .name) is-named));
-          name-inside = rw (b, n) (record { forward = omega (arith, t .name .ends); within = q });
+          name-inside = rw (b, n) (record { forward = omega (arith, t .name .ends); within = le-refl end });
         }
 
   module _ (b : isBlock tag ≡ true) (middle : ℕ) (f : BlockFields s (2 * widthOf tag) start end middle) where
@@ -69,13 +70,13 @@ module _ (s : List ℕ) (tag start end : ℕ) (r : Record) (p : start ≤ end) (
         let t = f .texts in
         let w = 2 * widthOf tag in
         let i : start + 3 + w ≤ end = omega (arith, t .handle .ends, t .name .ends) in
-        let m : middle ≤ length s = omega (arith, t .name .ends) in
+        let m : middle ≤ end = omega (arith, t .name .ends) in
         let a : start + 3 + w + 3 ≡ start + 6 + w = omega arith in
-        let h : innerSpan s start 1 ≡ spanFromTo (start + 3 + w + 3) middle =
-        span-at s 0x21 (start + 3 + w) middle (t .handle) m start 1 (pass-one s 0x20 start (start + 3 + w) (f .range) (omega arith) 0) in
-        let n : innerSpan s start 2 ≡ spanFromTo (middle + 3) (end - 4) =
-        span-at s 0x22 middle (end - 4) (t .name) (omega arith) start 2
-        (pass-one s 0x20 start (start + 3 + w) (f .range) (omega arith) 1 ∙ pass-one s 0x21 (start + 3 + w) middle (t .handle) m 0) in
+        let h : innerSpan s start end 1 ≡ spanFromTo (start + 3 + w + 3) middle =
+        span-at s 0x21 (start + 3 + w) middle (t .handle) end m start 1 (pass-one s 0x20 start (start + 3 + w) (f .range) end i 0) in
+        let n : innerSpan s start end 2 ≡ spanFromTo (middle + 3) (end - 4) =
+        span-at s 0x22 middle (end - 4) (t .name) end (omega arith) start 2
+        (pass-one s 0x20 start (start + 3 + w) (f .range) end i 1 ∙ pass-one s 0x21 (start + 3 + w) middle (t .handle) end m 0) in
         record {
           own-tag = sym (ap (λ (z : Record). z .tag) is-block);
           range-inside = λ z. i;

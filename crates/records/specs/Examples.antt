@@ -1,9 +1,10 @@
--- Records one after another: which may follow, and which overlap without lying inside (defects 6 and 7).
+-- Records one after another: which may follow, and which overlap without lying inside (defects 6 and 7); where handle and name are.
 use Prim.Native.Nat.{ℕ}
 use mathlib.Core.Path.{_≡_, refl}
 use mathlib.Core.Bool.{Bool, true, false}
 use mathlib.Core.List.{List, [], _∷_, map}
 use Rattle.records.specs.Record.{Record, follows, crossesBlock}
+use Rattle.records.specs.Place.{handleSpan, nameSpan}
 use Rattle.records.specs.Computing.{computing}
 
 -- a block of numbers below 256
@@ -44,3 +45,13 @@ follows-hold = refl
 pub crosses-hold : map (λ (c : Case). crossesBlock (c .earlier) (c .later)) cases ≡ map (λ (c : Case). c .crosses) cases
 unfolding computing
 crosses-hold = refl
+
+-- Fields 21 and 22 of an entity, and one byte more. A reader that is to end at 8 finds no name, though the bytes go on.
+abbrev pub fields : List ℕ
+fields = 0x21 ∷ 0 ∷ 1 ∷ 0x41 ∷ 0x22 ∷ 0 ∷ 2 ∷ 0x42 ∷ 0x43 ∷ 0 ∷ []
+
+spans-hold :
+    handleSpan fields 0x15 0 9 ∷ nameSpan fields 0x15 0 9 ∷ nameSpan fields 0x15 0 8 ∷ []
+    ≡ record { start = 3; end = 4 } ∷ record { start = 7; end = 9 } ∷ record { start = 0; end = 0 } ∷ []
+unfolding computing
+spans-hold = refl

@@ -4,9 +4,8 @@ use mathlib.Core.Path.{_≡_}
 use mathlib.Core.List.{List, [], _∷_}
 use Prim.Native.Nat.{ℕ, _-_, _*_, _≤_, _<_}
 use lib.Dec.{eqb}
-use lib.ListN.{length}
 use lib.Seq.{slice}
-use Rattle.fields.specs.Place.{fieldAt, passed}
+use Rattle.fields.specs.Place.{fieldAfter}
 use Rattle.fields.specs.declared.Field.{Field}
 use Rattle.fields.specs.declared.Field.the-variants.{Whole, Short}
 use Rattle.records.specs.Record.{Record, isBlock, widthOf}
@@ -49,16 +48,16 @@ abbrev pub spanFrom : Field → Span
 spanFrom (Whole tag from to) = record { start = from; end = to }
 spanFrom Short = record { start = 0; end = 0 }
 
--- the contents of the field n fields on from a position
-abbrev pub innerSpan : List ℕ → ℕ → ℕ → Span
-innerSpan s at n = spanFrom (fieldAt s (passed s n at) (length s))
+-- the contents of the field n fields on from a position, in what ends at `end`
+abbrev pub innerSpan : List ℕ → ℕ → ℕ → ℕ → Span
+innerSpan s at end n = spanFrom (fieldAfter s n at end)
 
--- in the record of a tag whose contents start at a position
-unfoldable pub handleSpan : List ℕ → ℕ → ℕ → Span
-handleSpan s tag start = innerSpan s start (cond (isBlock tag) 1 0)
+-- in the record of a tag whose contents go from start up to end
+unfoldable pub handleSpan : List ℕ → ℕ → ℕ → ℕ → Span
+handleSpan s tag start end = innerSpan s start end (cond (isBlock tag) 1 0)
 
-unfoldable pub nameSpan : List ℕ → ℕ → ℕ → Span
-nameSpan s tag start = innerSpan s start (cond (isBlock tag) 2 1)
+unfoldable pub nameSpan : List ℕ → ℕ → ℕ → ℕ → Span
+nameSpan s tag start end = innerSpan s start end (cond (isBlock tag) 2 1)
 
 -- the record before, if there is one: `before` is its tag, or 0
 abbrev pub previousOf : List ℕ → ℕ → Parts → List Record

@@ -1,7 +1,7 @@
 -- A walk over the records of a run: the test of one record, and what is still to be found.
 use Prim.Native.Nat.{ℕ, zero, suc, _+_, _-_, _≤_, _<_}
 use mathlib.Core.Bool.{Bool, true, false, _&&_}
-use mathlib.Core.Path.{_≡_, refl, sym, subst, ap, _∙_}
+use mathlib.Core.Path.{_≡_, refl, sym, ap, _∙_}
 use mathlib.Core.List.{List, [], _++_, append-nil}
 use native.Mathlib.Numerals.{add-one}
 use native.Mathlib.Omega.{arith}
@@ -9,8 +9,6 @@ use borrow.Author.Tests.{lt-leb, le-leb}
 use lib.Dec.{leb}
 use lib.ListN.{length, take, drop, getD, drop-of-length-le}
 use Rattle.address.specs.Lists.{within, keep}
-use Rattle.name.specs.declared.Text.{Text}
-use Rattle.name.specs.declared.Text.the-variants.{Handle, Name, Host}
 use Rattle.pattern.specs.Pattern.{matchesForm}
 use Rattle.pattern.specs.declared.Form.{Form}
 use Rattle.records.specs.Record.{Record}
@@ -18,16 +16,16 @@ use Rattle.fields.specs.Slices.{part-slice}
 use Rattle.records.specs.Place.{bytesOf, Inside}
 use Rattle.records.specs.declared.Span.{Span}
 use Rattle.image.specs.Image.{imageOf}
-use Rattle.image.specs.Part.{recordsOf}
-use Rattle.image.specs.Entries.{placeOf}
+use Rattle.image.specs.Part.{recordsOf, textOf}
+use Rattle.image.specs.Entries.{textSpan}
 use Rattle.image.specs.Index.{tagOf, Standing, Selected}
 use Rattle.image.specs.declared.Run.{Run}
+use Rattle.image.specs.declared.Which.{Which}
 use Rattle.image.proofs.Soundness.{counted, few-records, few-bytes}
-use Rattle.image.proofs.Standing.{standing-of, place-inside}
+use Rattle.image.proofs.Standing.{standing-of, text-in-image, place-inside}
 use Rattle.listing.specs.Listing.{Reported}
 use Rattle.listing.specs.declared.Listed.{Listed}
-use Rattle.search.specs.Search.{numbersFrom, fieldOf}
-use Rattle.search.specs.Standing.{fieldSpan, picksRecord}
+use Rattle.search.specs.Search.{numbersFrom, picksRecord}
 
 -- the test of the text, on a part of the image
 pub text-picked :
@@ -36,26 +34,12 @@ pub text-picked :
 text-picked fold form pattern s x y e forward k =
     k ∙ ap (matchesForm fold form pattern) (part-slice (x .start) (x .end) s forward ∙ ap (bytesOf s) e)
 
--- the case is folded or not, as another test says
-pub folded-as :
-    (first last : ℕ) (text : Text) (form : Form) (pattern : List ℕ) (records : List Record) {list after : List ℕ} {r : Listed} {u v : Bool} → u ≡ v
-    → Reported (numbersFrom (picksRecord first last text u form pattern) 0 records) list after r
-    → Reported (numbersFrom (picksRecord first last text v form pattern) 0 records) list after r
-folded-as first last text form pattern records {list} {after} {r} e p =
-    subst (λ (fold : Bool). Reported (numbersFrom (picksRecord first last text fold form pattern) 0 records) list after r) e p
-
-module _ {s : List ℕ} {i : ℕ} (a : Standing s i) where
-  field-inside : (text : Text) → Inside (length s) (fieldSpan text s (tagOf s i) (placeOf s i + 3))
-  unfolding fieldSpan
-  field-inside Handle = a .handle-inside
-  field-inside Name = a .name-inside
-  field-inside Host = a .name-inside
-
-  field-here : (text : Text) → bytesOf s (fieldSpan text s (tagOf s i) (placeOf s i + 3)) ≡ fieldOf text (a .r)
-  unfolding fieldSpan fieldOf
-  field-here Handle = a .handle
-  field-here Name = a .name
-  field-here Host = a .name
+-- the part and the folding of case, as other functions name them
+pub picked-as :
+    (first last : ℕ) (form : Form) (pattern : List ℕ) (records : List Record) {list after : List ℕ} {r : Listed} {u v : Bool} → u ≡ v → {w x : Which} → w ≡ x
+    → Reported (numbersFrom (picksRecord first last w u form pattern) 0 records) list after r
+    → Reported (numbersFrom (picksRecord first last x v form pattern) 0 records) list after r
+picked-as first last form pattern records e f p = rw (← e, ← f) p
 
 -- a record of the run, where the index says that it stands
 module _ {s places : List ℕ} {run : Run} (a : Selected s places run) where
@@ -72,33 +56,31 @@ module _ {s places : List ℕ} {run : Run} (a : Selected s places run) where
     pub in-image : (getD places i 0 + 3 ≤ length s) × (length s ≤ 262144)
     in-image = (place-inside s places (a .count) (a .indexed) i known, few-bytes s (a .count) (a .indexed .sound))
 
-    pub text-inside : (text : Text) → Inside (length s) (fieldSpan text s (getD s (getD places i 0) 0) (getD places i 0 + 3))
-    unfolding tagOf
-    text-inside text = rw (a .indexed .place i known) (field-inside stands text)
+    pub text-inside : (which : Which) → Inside (length s) (textSpan which s (getD places i 0))
+    text-inside which = rw (a .indexed .place i known) (text-in-image stands which)
 
-    text-here : (text : Text) → bytesOf s (fieldSpan text s (getD s (getD places i 0) 0) (getD places i 0 + 3)) ≡ fieldOf text (stands .r)
-    unfolding tagOf
-    text-here text = rw (a .indexed .place i known) (field-here stands text)
+    text-here : (which : Which) → bytesOf s (textSpan which s (getD places i 0)) ≡ textOf which (stands .r)
+    text-here which = rw (a .indexed .place i known) (stands .text which)
 
 -- what is found from record i on
-abbrev pub foundFrom : List ℕ → Run → Text → Bool → Form → List ℕ → ℕ → List ℕ
-foundFrom s run text fold form pattern i = numbersFrom (picksRecord (run .first) (run .last) text fold form pattern) i (drop i (recordsOf (imageOf s)))
+abbrev pub foundFrom : List ℕ → Run → Which → Bool → Form → List ℕ → ℕ → List ℕ
+foundFrom s run which fold form pattern i = numbersFrom (picksRecord (run .first) (run .last) which fold form pattern) i (drop i (recordsOf (imageOf s)))
 
-module _ {s places : List ℕ} {run : Run} (a : Selected s places run) (text : Text) (fold : Bool) (form : Form) (pattern : List ℕ) where
+module _ {s places : List ℕ} {run : Run} (a : Selected s places run) (which : Which) (fold : Bool) (form : Form) (pattern : List ℕ) where
   abbrev from : ℕ → List ℕ
-  from i = foundFrom s run text fold form pattern i
+  from i = foundFrom s run which fold form pattern i
 
-  next : (i : ℕ) (x : Standing s i) (v : Bool) → picksRecord (run .first) (run .last) text fold form pattern (x .r) ≡ v → from i ≡ keep v i (from (i + 1))
-  next i x v e = ap (numbersFrom (picksRecord (run .first) (run .last) text fold form pattern) i) (x .here) ∙ rw (e, add-one i)
+  next : (i : ℕ) (x : Standing s i) (v : Bool) → picksRecord (run .first) (run .last) which fold form pattern (x .r) ≡ v → from i ≡ keep v i (from (i + 1))
+  next i x v e = ap (numbersFrom (picksRecord (run .first) (run .last) which fold form pattern) i) (x .here) ∙ rw (e, add-one i)
 
   -- a record of the run: the text decides
   pub turn :
       (i : ℕ) → run .from ≤ i → (h : i < run .until) {v : Bool}
-      → v ≡ matchesForm fold form pattern (bytesOf s (fieldSpan text s (getD s (getD places i 0) 0) (getD places i 0 + 3))) → from i ≡ keep v i (from (i + 1))
+      → v ≡ matchesForm fold form pattern (bytesOf s (textSpan which s (getD places i 0))) → from i ≡ keep v i (from (i + 1))
   turn i k h {v} e =
       let x = stands a i h in
       let t = a .run-of .inside i k h in
-      next i x v (rw (← text-here a i h text, ← x .tag, le-leb (run .first) (tagOf s i) (t .0), le-leb (tagOf s i) (run .last) (t .1)) (sym e))
+      next i x v (rw (← text-here a i h which, ← x .tag, le-leb (run .first) (tagOf s i) (t .0), le-leb (tagOf s i) (run .last) (t .1)) (sym e))
 
   -- records of other tags are not picked
   passed :

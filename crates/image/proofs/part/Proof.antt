@@ -1,7 +1,9 @@
--- The part from start up to end of the span has the text that the span promises.
-use mathlib.Core.Path.{_∙_}
+-- The part from start up to end of the span has the text that the span promises, and starts where the span does.
+use mathlib.Core.Path.{refl, _∙_, ap}
+use native.Mathlib.Omega.{arith}
 use borrow.Author.Needs.{needs}
 use Rattle.fields.specs.Slices.{part-slice}
+use Rattle.records.specs.declared.Span.{Span}
 use Rattle.image.proofs.part.Statement.{statement}
 use Rattle.image.proofs.part.Tie as tie
 
@@ -18,7 +20,13 @@ part-result-end : tie.Need-part-result-end
 part-result-end c = search needs
 
 returns : tie.Need-returns
-returns c = part-slice _ _ _ (c .before .part-span .ensures .inside .forward) ∙ c .before .part-span .ensures .text
+returns c =
+    let span = c .before .part-span .ensures in
+    record {
+      same = part-slice _ _ _ (span .inside .forward) ∙ span .text;
+      memory = refl;
+      offset = omega (arith, ap (λ (x : Span). x .start) (span .same));
+    }
 
 pub part-spec : {M : Type 1} → statement M
 part-spec = tie.close (tie.spec part-span-requires sub-result part-result-start part-result-end returns)

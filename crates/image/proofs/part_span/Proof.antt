@@ -1,12 +1,9 @@
 -- Each return is a law of Spans.antt: no record of the number, or what stands where it starts.
 use native.Mathlib.Omega.{arith}
-use Prim.Native.Nat.{_+_, _≤_}
-use lib.ListN.{length, getD}
 use denote.Ref.{now}
 use borrow.Author.Needs.{needs}
 use Rattle.image.specs.Image.{imageOf}
 use Rattle.image.specs.Index.{Indexed}
-use Rattle.image.specs.declared.Which.the-variants.{Handle, Name}
 use Rattle.image.proofs.Soundness.{few-records, few-bytes}
 use Rattle.image.proofs.Standing.{place-inside}
 use Rattle.image.proofs.Spans.{defective-none, span-none, span-beyond, span-some}
@@ -36,45 +33,22 @@ indexed c = c .before .before .index .ensures .indexed _ (c .count .given .1)
 returns-2 : tie.Need-returns-2
 returns-2 c = span-beyond _ _ _ (indexed (c .before .before)) (c .if1 .taken)
 
-mul-at : tie.Need-mul-at
-mul-at c = search needs
+mul-text-span : tie.Need-mul-text-span
+mul-text-span c = search needs
 
-array-read-at : tie.Need-array-read-at
-array-read-at c = omega (arith, few-records _ _ (indexed (c .before .before) .sound), c .if1 .left)
+array-read-text-span : tie.Need-array-read-text-span
+array-read-text-span c = omega (arith, few-records _ _ (indexed (c .before .before) .sound), c .if1 .left)
 
--- the record starts in the image
-starts : (c : tie.Else1) → getD (c .before .before .before .before .index .last .1 .0) (c .before .before .before .before .before .before .before .args .number) 0 + 3 ≤ length (now (c .before .before .before .before .before .before .before .args .image))
-starts c = place-inside _ _ _ (indexed (c .before .before)) _ (c .if1 .left)
+cast-text-span : tie.Need-cast-text-span
+cast-text-span c =
+    let x = indexed (c .before .before) in
+    omega (arith, place-inside _ _ _ x _ (c .if1 .left), few-bytes _ _ (x .sound))
 
-cast-at : tie.Need-cast-at
-cast-at c = omega (arith, starts c, few-bytes _ _ (indexed (c .before .before) .sound))
-
-shared-slice-read-tag : tie.Need-shared-slice-read-tag
-shared-slice-read-tag c = omega (arith, starts (c .before))
-
-enum-told-2 : tie.Need-enum-told-2
-enum-told-2 c = search needs
-
-add-handle-span : tie.Need-add-handle-span
-add-handle-span c = omega (arith, starts (c .before .before .before), few-bytes _ _ (indexed (c .before .before .before .before .before) .sound))
-
-handle-span-requires : tie.Need-handle-span-requires
-handle-span-requires c κs = search needs
-
-enum-told-3 : tie.Need-enum-told-3
-enum-told-3 c = search needs
-
-add-name-span : tie.Need-add-name-span
-add-name-span c = omega (arith, starts (c .before .before .before), few-bytes _ _ (indexed (c .before .before .before .before .before) .sound))
-
-name-span-requires : tie.Need-name-span-requires
-name-span-requires c κs = search needs
+text-span-requires : tie.Need-text-span-requires
+text-span-requires c κs = search needs
 
 returns-3 : tie.Need-returns-3
-returns-3 c = span-some _ _ _ (indexed (c .before .before .before .before .before .before)) (c .before .before .before .before .if1 .left) Handle (c .before .enum-told2 .given .1) _ (c .handle-span .ensures)
-
-returns-4 : tie.Need-returns-4
-returns-4 c = span-some _ _ _ (indexed (c .before .before .before .before .before .before)) (c .before .before .before .before .if1 .left) Name (c .before .enum-told3 .given .1) _ (c .name-span .ensures)
+returns-3 c = span-some _ _ _ (indexed (c .before .before .before)) (c .before .if1 .left) _ (c .text-span .ensures)
 
 pub part-span-spec : {M : Type 1} → statement M
 part-span-spec =
@@ -85,15 +59,8 @@ part-span-spec =
     enum-told
     returns
     returns-2
-    mul-at
-    array-read-at
-    cast-at
-    shared-slice-read-tag
-    enum-told-2
-    add-handle-span
-    handle-span-requires
-    enum-told-3
-    add-name-span
-    name-span-requires
-    returns-3
-    returns-4)
+    mul-text-span
+    array-read-text-span
+    cast-text-span
+    text-span-requires
+    returns-3)

@@ -1,9 +1,14 @@
--- What the reader finds n fields on is turned into its span, by cases as in the definition.
+-- What the reader over the image up to the end finds n fields on is turned into its span, by cases as in the definition.
 use mathlib.Core.Path.{_∙_, ap, sym}
+use lib.Seq.{length-take-le}
 use borrow.Author.Needs.{needs}
+use Rattle.fields.proofs.Fields.{front-after}
 use Rattle.records.specs.Place.{spanFrom}
 use Rattle.records.proofs.inner_span.Statement.{statement}
 use Rattle.records.proofs.inner_span.Tie as tie
+
+slice-aggregate-enclosing : tie.Need-slice-aggregate-enclosing
+slice-aggregate-enclosing c = sym (length-take-le _ _ (c .before .before .pre))
 
 field-after-requires : tie.Need-field-after-requires
 field-after-requires c κs = search needs
@@ -15,10 +20,11 @@ enum-told : tie.Need-enum-told
 enum-told c = search needs
 
 returns : tie.Need-returns
-returns c = ap spanFrom (sym (c .before .start .given .1) ∙ c .before .before .before .field-after .ensures)
+returns c = ap spanFrom (sym (c .before .start .given .1) ∙ c .before .before .before .field-after .ensures ∙ front-after _ _ _ _ (c .before .before .before .before .before .before .pre))
 
 returns-2 : tie.Need-returns-2
-returns-2 c = ap spanFrom (sym (c .enum-told .given .1) ∙ c .before .before .field-after .ensures)
+returns-2 c = ap spanFrom (sym (c .enum-told .given .1) ∙ c .before .before .field-after .ensures ∙ front-after _ _ _ _ (c .before .before .before .before .before .pre))
 
 pub inner-span-spec : {M : Type 1} → statement M
-inner-span-spec = tie.close (tie.spec field-after-requires enum-known-start enum-told returns returns-2)
+inner-span-spec =
+    tie.close (tie.spec slice-aggregate-enclosing field-after-requires enum-known-start enum-told returns returns-2)

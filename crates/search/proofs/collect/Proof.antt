@@ -14,17 +14,18 @@ use Rattle.search.proofs.collect.Statement.{statement}
 use Rattle.search.proofs.collect.Tie as tie
 
 abbrev Inv-loop : tie.InvT-loop
-Inv-loop image places run text fold form pattern hits₀ n₀ i₀ hits n i =
+Inv-loop image places run which fold form pattern hits₀ n₀ i₀ hits n i =
     (length hits ≡ 4096) × (run .from ≤ i) × (i ≤ run .until) × (n ≤ i)
-    × (take n hits ++ foundFrom image run text fold form pattern i ≡ foundFrom image run text fold form pattern 0)
+    × (take n hits ++ foundFrom image run which fold form pattern i ≡ foundFrom image run which fold form pattern 0)
 
 abbrev μ-loop : tie.MeasureT-loop
-μ-loop image places run text fold form pattern hits₀ n₀ i₀ hits n i = run .until - i
+μ-loop image places run which fold form pattern hits₀ n₀ i₀ hits n i = run .until - i
 
 loop-holds : tie.Need-loop-holds Inv-loop μ-loop
 loop-holds c =
-    let pre = c .before .before .pre in
-    (pre .1, omega arith, pre .0 .run-of .forward, omega arith, before-run (pre .0) _ _ _ _)
+    let start = c .before .before in
+    let pre = start .pre in
+    (pre .1, omega arith, pre .0 .run-of .forward, omega arith, before-run (pre .0) (start .args .which) _ _ _)
 
 -- the run, at a turn
 chosen :
@@ -44,20 +45,14 @@ element-copy-out-at c = omega (arith, few (chosen c))
 cast-at-2 : tie.Need-cast-at-2 Inv-loop μ-loop
 cast-at-2 c = omega (arith, in-image (chosen (c .before)) (c .before .before .before .loop .i) (omega arith))
 
-shared-slice-read-picked : tie.Need-shared-slice-read-picked Inv-loop μ-loop
-shared-slice-read-picked c = omega (arith, in-image (chosen (c .before .before)) (c .before .before .before .before .loop .i) (omega arith))
-
-add-picked : tie.Need-add-picked Inv-loop μ-loop
-add-picked c = omega (arith, in-image (chosen (c .before .before)) (c .before .before .before .before .loop .i) (omega arith))
-
 picked-requires : tie.Need-picked-requires Inv-loop μ-loop
-picked-requires c κs = text-inside (chosen (c .before .before)) (c .before .before .before .before .loop .i) (omega arith) _
+picked-requires c κs = text-inside (chosen (c .before)) (c .before .before .before .loop .i) (omega arith) _
 
 mul-hits : tie.Need-mul-hits Inv-loop μ-loop
 mul-hits c = search needs
 
 element-write-hits : tie.Need-element-write-hits Inv-loop μ-loop
-element-write-hits c = omega (arith, few (chosen (c .before .before .before .before)))
+element-write-hits c = omega (arith, few (chosen (c .before .before .before)))
 
 add-n : tie.Need-add-n Inv-loop μ-loop
 add-n c = search needs
@@ -70,7 +65,7 @@ loop-less c = search needs
 
 loop-again : tie.Need-loop-again Inv-loop μ-loop
 loop-again c =
-    let here = c .before .before .before .before in
+    let here = c .before .before .before in
     let walk = here .before .before .loop in
     let full = walk .inv .0 in
     let small = few (chosen here) in
@@ -100,7 +95,7 @@ returns c =
     record {
       full = walk .inv .0;
       few = omega arith;
-      same = all-found (start .pre .0) _ _ _ _ (walk .i) (omega arith) (walk .inv .4);
+      same = all-found (start .pre .0) (start .args .which) _ _ _ (walk .i) (omega arith) (walk .inv .4);
     }
 
 pub collect-spec : {M : Type 1} → statement M
@@ -114,8 +109,6 @@ collect-spec =
     mul-at
     element-copy-out-at
     cast-at-2
-    shared-slice-read-picked
-    add-picked
     picked-requires
     mul-hits
     element-write-hits

@@ -3,10 +3,13 @@ use borrow.Author.Needs.{needs}
 use denote.Ref.{now}
 use Rattle.image.specs.Image.{imageOf}
 use Rattle.image.specs.Part.{recordsOf}
-use Rattle.search.specs.Search.{isMatch, isOf}
-use Rattle.search.proofs.Picks.{folded-as}
+use Rattle.search.specs.Search.{fieldOf, isMatch, isOf}
+use Rattle.search.proofs.Picks.{picked-as}
 use Rattle.search.proofs.matching.Statement.{statement}
 use Rattle.search.proofs.matching.Tie as tie
+
+which-of-requires : tie.Need-which-of-requires
+which-of-requires c κs = search needs
 
 folds-case-requires : tie.Need-folds-case-requires
 folds-case-requires c κs = search needs
@@ -18,11 +21,11 @@ same-length : tie.Need-same-length
 same-length c = search needs
 
 returns : tie.Need-returns
-unfolding isMatch isOf
+unfolding isMatch isOf fieldOf
 returns c =
-    let a = c .before .before .before .before .before .before .before .before .args in
-    folded-as (a .run .first) (a .run .last) (a .text) (a .form) (now (a .pattern)) (recordsOf (imageOf (now (a .image)))) (c .before .before .before .before .folds-case .ensures)
-    (c .before .before .list-picked .ensures)
+    let a = c .before .before .before .before .before .before .before .before .before .args in
+    picked-as (a .run .first) (a .run .last) (a .form) (now (a .pattern)) (recordsOf (imageOf (now (a .image))))
+    (c .before .before .before .before .folds-case .ensures) (c .before .before .before .before .before .which-of .ensures) (c .before .before .list-picked .ensures)
 
 pub matching-spec : {M : Type 1} → statement M
-matching-spec = tie.close (tie.spec folds-case-requires list-picked-requires same-length returns)
+matching-spec = tie.close (tie.spec which-of-requires folds-case-requires list-picked-requires same-length returns)

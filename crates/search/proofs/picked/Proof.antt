@@ -9,13 +9,13 @@ use Rattle.search.proofs.Picks.{text-picked}
 use Rattle.search.proofs.picked.Statement.{statement}
 use Rattle.search.proofs.picked.Tie as tie
 
-field-span-requires : tie.Need-field-span-requires
-field-span-requires c κs = search needs
+text-span-requires : tie.Need-text-span-requires
+text-span-requires c κs = search needs
 
-inside : (c : tie.After-field-span) → Inside (length (now (c .before .before .before .args .image))) (c .field-span .result)
+inside : (c : tie.After-text-span) → Inside (length (now (c .before .before .before .args .image))) (c .text-span .result)
 inside c =
     let start = c .before .before .before in
-    subst (λ (x : Span). Inside (length (now (start .args .image))) x) (sym (c .field-span .ensures)) (start .pre)
+    subst (λ (x : Span). Inside (length (now (start .args .image))) x) (sym (c .text-span .ensures)) (start .pre)
 
 sub-form-matches : tie.Need-sub-form-matches
 sub-form-matches c = inside c .forward
@@ -33,13 +33,13 @@ returns : tie.Need-returns
 returns c =
     let span = c .before .before in
     let start = span .before .before .before in
-    text-picked _ _ _ (now (start .args .image)) (span .field-span .result) _ (span .field-span .ensures) (inside span .forward) (c .form-matches .ensures)
+    text-picked _ _ _ (now (start .args .image)) (span .text-span .result) _ (span .text-span .ensures) (inside span .forward) (c .form-matches .ensures)
 
 pub picked-spec : {M : Type 1} → statement M
 picked-spec =
     tie.close
     (tie.spec
-    field-span-requires
+    text-span-requires
     sub-form-matches
     part-form-matches-start
     part-form-matches-end
