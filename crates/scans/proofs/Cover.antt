@@ -6,8 +6,7 @@ use lib.Dec.{leb}
 use borrow.Author.Tests.{eq-eqb, ne-eqb, le-leb}
 use native.Mathlib.Omega.{arith}
 use Rattle.address.specs.Ranges.{Range, covers, strictlyCovers, strictlyInside}
-use Rattle.address.proofs.Covering.{strictly-covers}
-use Rattle.address.proofs.Positions.{not-leb}
+use Rattle.address.proofs.Covering.{not-leb, strictly-covers}
 use Rattle.scans.specs.Tests.{surroundsBy, freeAfter, keepsFrom}
 
 module _ (a b : Range) {u : Bool} (e : u ≡ leb (a .first) (b .first)) where

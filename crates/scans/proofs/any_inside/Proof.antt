@@ -1,57 +1,62 @@
--- `scans::any_inside` meets its contract: the blocks that are still to come have the answer of all.
-use Prim.Native.Nat.{_≤_, _-_}
-use mathlib.Core.Path.{_≡_}
-use native.Mathlib.Omega.{arith}
-use Rattle.address.specs.Lists.{any}
-use Rattle.address.specs.Ranges.{strictlyInside}
-use Rattle.scans.specs.Standing.{blocksIn, between}
-use Rattle.scans.proofs.Walks.{blocksLeft, run-start, run-end, within, comparable}
-use Rattle.scans.proofs.Turns.{any-stop, any-found, any-missed}
 use borrow.Author.Needs.{needs}
 use Rattle.scans.proofs.any_inside.Statement.{statement}
 use Rattle.scans.proofs.any_inside.Tie as tie
+use Rattle.scans.proofs.any_inside.Reads as reads
+use Rattle.scans.proofs.any_inside.Lts as lts
+use Rattle.address.proofs.at_least_at.Reads as at-least-at-reads
+use Rattle.records.proofs.width_of.Reads as width-of-reads
+use Rattle.scans.proofs.range_start.Reads as range-start-reads
+use Rattle.scans.proofs.strictly_inside.Reads as strictly-inside-reads
 
 abbrev Inv-loop : tie.InvT-loop
-Inv-loop image places blocks first last i₀ i =
-    (blocks .from ≤ i)
-    × (i ≤ blocks .until)
-    × (any (λ b. strictlyInside (b .range) (between first last)) (blocksLeft image (blocks .first) i)
-    ≡ any (λ b. strictlyInside (b .range) (between first last)) (blocksIn image (blocks .first)))
+Inv-loop image places blocks range width i₀ i = ?
 
 abbrev μ-loop : tie.MeasureT-loop
-μ-loop image places blocks first last i₀ i = blocks .until - i
+μ-loop image places blocks range width i₀ i = ?
 
+-- src/lib.rt:177:9
+width-of-requires : tie.Need-width-of-requires Inv-loop μ-loop
+width-of-requires c κs = ?
+
+-- src/lib.rt:179:5
 loop-holds : tie.Need-loop-holds Inv-loop μ-loop
-loop-holds c =
-    let q = c .before .before .before .pre in
-    (omega arith, q .selected .run-of .forward, rw (run-start q))
+loop-holds c = ?
 
+-- src/lib.rt:180:13
 range-start-requires : tie.Need-range-start-requires Inv-loop μ-loop
-range-start-requires c κs = within (c .before .before .before .before .before .before .pre) (c .before .before .loop .inv .0) (c .if1 .taken)
+range-start-requires c κs = ?
 
-begins-after-requires : tie.Need-begins-after-requires Inv-loop μ-loop
-begins-after-requires c κs = let k = comparable (c .before .before .before .before .before .before .before .pre) (c .before .before .before .loop .inv .0) (c .before .if1 .taken) (c .range-start .ensures) in rw (k .same) (k .wide, k .fits)
+-- src/lib.rt:181:13
+at-least-at-requires : tie.Need-at-least-at-requires Inv-loop μ-loop
+at-least-at-requires c κs = ?
 
+-- src/lib.rt:182:13
 returns : tie.Need-returns Inv-loop μ-loop
-returns c = any-stop (c .before .before .before .before .before .before .before .before .before .pre) (c .before .before .before .before .before .loop .inv .0) (c .before .before .before .if1 .taken) (c .before .before .range-start .ensures) (c .before .begins-after .ensures) (c .if2 .taken) (c .before .before .before .before .before .loop .inv .2)
+returns c = ?
 
+-- src/lib.rt:184:12
 strictly-inside-requires : tie.Need-strictly-inside-requires Inv-loop μ-loop
-strictly-inside-requires c κs = comparable (c .before .before .before .before .before .before .before .before .before .pre) (c .before .before .before .before .before .loop .inv .0) (c .before .before .before .if1 .taken) (c .before .before .range-start .ensures)
+strictly-inside-requires c κs = ?
 
+-- src/lib.rt:185:13
 returns-2 : tie.Need-returns-2 Inv-loop μ-loop
-returns-2 c = any-found (c .before .before .before .before .before .before .before .before .before .before .before .pre) (c .before .before .before .before .before .before .before .loop .inv .0) (c .before .before .before .before .before .if1 .taken) (c .before .before .before .before .range-start .ensures) (c .before .strictly-inside .ensures) (c .before .before .before .before .before .before .before .loop .inv .2) (c .if3 .taken)
+returns-2 c = ?
 
+-- src/lib.rt:187:9
 add-i : tie.Need-add-i Inv-loop μ-loop
-add-i c = search needs
+add-i c = ?
 
+-- src/lib.rt:179:5
 loop-less : tie.Need-loop-less Inv-loop μ-loop
-loop-less c = search needs
+loop-less c = ?
 
+-- src/lib.rt:179:5
 loop-again : tie.Need-loop-again Inv-loop μ-loop
-loop-again c = (omega arith, omega arith, any-missed (c .before .before .before .before .before .before .before .before .before .before .before .pre) (c .before .before .before .before .before .before .before .loop .inv .0) (c .before .before .before .before .before .if1 .taken) (c .before .before .before .before .range-start .ensures) (c .before .strictly-inside .ensures) (c .before .before .before .before .before .before .before .loop .inv .2) (c .if3 .left))
+loop-again c = ?
 
+-- src/lib.rt:173:1
 returns-3 : tie.Need-returns-3 Inv-loop μ-loop
-returns-3 c = rw (run-end (c .before .before .before .before .before .before .pre) (c .before .before .loop .i) (c .if1 .left) (c .before .before .loop .inv .1)) at (c .before .before .loop .inv .2)
+returns-3 c = ?
 
 pub any-inside-spec : {M : Type 1} → statement M
 any-inside-spec =
@@ -59,9 +64,10 @@ any-inside-spec =
     (tie.spec
     Inv-loop
     μ-loop
+    width-of-requires
     loop-holds
     range-start-requires
-    begins-after-requires
+    at-least-at-requires
     returns
     strictly-inside-requires
     returns-2
