@@ -1,5 +1,5 @@
 -- The number of two lists of bytes, one after the other, and of a part of a list, cut in two.
-use mathlib.Core.Path.{_≡_, refl, sym, _∙_}
+use mathlib.Core.Path.{_≡_, refl, _∙_}
 use mathlib.Core.List.{List, [], _∷_, _++_}
 use Prim.Native.Nat.{ℕ, suc, _+_, _*_, _^_, _<_, _≤_, zero-le, suc-le-suc}
 use native.Mathlib.Nat.{mul-le-mul-right, zero-add}
@@ -8,7 +8,7 @@ use native.Mathlib.Omega.{arith}
 use lib.ListN.{length, take, drop, getD, length-drop}
 use lib.Pow.{pow-add}
 use lib.Seq.{slice, slice-cons, slice-empty, take-add, take-length, drop-drop, drop-at, length-take-le, length-slice, getD-drop, getD-take}
-use Rattle.address.specs.Number.{value, valueFrom, Digits, Bytes}
+use Rattle.address.specs.Number.{value, valueFrom, Bytes}
 use Rattle.address.specs.Positions.{numberIn}
 
 eight-more : (n : ℕ) → 2 ^ (8 * suc n) ≡ 256 * 2 ^ (8 * n)

@@ -1,62 +1,67 @@
+-- `scans::any_inside` meets its contract: the blocks that are still to come have the answer of all.
+use Prim.Native.Nat.{_≤_, _-_}
+use native.Mathlib.Omega.{arith}
+use borrow.Author.Tests.{not-true}
+use mathlib.Core.Path.{_≡_}
+use Rattle.address.specs.Lists.{any}
+use Rattle.address.specs.Address.{numbers}
+use Rattle.address.specs.Ranges.{strictlyInside}
+use Rattle.scans.specs.Standing.{blocksIn}
+use Rattle.scans.proofs.Walks.{blocksLeft, run-start, run-end, within, Here, comparable}
+use Rattle.scans.proofs.Turns.{any-stop, any-found, any-missed}
 use borrow.Author.Needs.{needs}
 use Rattle.scans.proofs.any_inside.Statement.{statement}
 use Rattle.scans.proofs.any_inside.Tie as tie
-use Rattle.scans.proofs.any_inside.Reads as reads
-use Rattle.scans.proofs.any_inside.Lts as lts
-use Rattle.address.proofs.at_least_at.Reads as at-least-at-reads
-use Rattle.records.proofs.width_of.Reads as width-of-reads
-use Rattle.scans.proofs.range_start.Reads as range-start-reads
-use Rattle.scans.proofs.strictly_inside.Reads as strictly-inside-reads
 
 abbrev Inv-loop : tie.InvT-loop
-Inv-loop image places blocks range width i₀ i = ?
+Inv-loop image places blocks range width i₀ i =
+    (blocks .from ≤ i)
+    × (i ≤ blocks .until)
+    × (any (λ b. strictlyInside (b .range) (numbers range)) (blocksLeft image (blocks .first) i)
+    ≡ any (λ b. strictlyInside (b .range) (numbers range)) (blocksIn image (blocks .first)))
 
 abbrev μ-loop : tie.MeasureT-loop
-μ-loop image places blocks range width i₀ i = ?
+μ-loop image places blocks range width i₀ i = blocks .until - i
 
--- src/lib.rt:177:9
+-- the record of this turn
+here : (c : tie.After-range-start Inv-loop μ-loop) → let a = c .before .before .before .before .before .before .args in
+    Here (a .image .now) (a .places .now) (a .blocks) (a .range) (c .before .before .before .loop .i) (c .range-start .result) (c .before .before .before .before .width-of .result)
+here c =
+    let w = c .before .before .before .before .width-of .ensures .0 in
+    record { asked = c .before .before .before .before .before .before .pre; low = c .before .before .before .loop .inv .0; high = c .before .if1 .taken; start = c .range-start .ensures; wide = w }
+
 width-of-requires : tie.Need-width-of-requires Inv-loop μ-loop
-width-of-requires c κs = ?
+width-of-requires c κs = search needs
 
--- src/lib.rt:179:5
 loop-holds : tie.Need-loop-holds Inv-loop μ-loop
-loop-holds c = ?
+loop-holds c = (omega arith, c .before .before .pre .selected .run-of .forward, rw (run-start (c .before .before .pre)))
 
--- src/lib.rt:180:13
 range-start-requires : tie.Need-range-start-requires Inv-loop μ-loop
-range-start-requires c κs = ?
+range-start-requires c κs = within (c .before .before .before .before .before .pre) (c .before .before .loop .inv .0) (c .if1 .taken)
 
--- src/lib.rt:181:13
 at-least-at-requires : tie.Need-at-least-at-requires Inv-loop μ-loop
-at-least-at-requires c κs = ?
+at-least-at-requires c κs = let k = comparable (here c) in (k .wide, omega (arith, k .fits))
 
--- src/lib.rt:182:13
 returns : tie.Need-returns Inv-loop μ-loop
-returns c = ?
+returns c = any-stop (here (c .before .before)) (c .before .at-least-at .ensures) (not-true _ (c .if2 .taken)) (c .before .before .before .before .before .loop .inv .2)
 
--- src/lib.rt:184:12
 strictly-inside-requires : tie.Need-strictly-inside-requires Inv-loop μ-loop
-strictly-inside-requires c κs = ?
+strictly-inside-requires c κs = comparable (here (c .before .before))
 
--- src/lib.rt:185:13
 returns-2 : tie.Need-returns-2 Inv-loop μ-loop
-returns-2 c = ?
+returns-2 c = any-found (here (c .before .before .before .before)) (c .before .strictly-inside .ensures) (c .before .before .before .before .before .before .before .loop .inv .2) (c .if3 .taken)
 
--- src/lib.rt:187:9
 add-i : tie.Need-add-i Inv-loop μ-loop
-add-i c = ?
+add-i c = search needs
 
--- src/lib.rt:179:5
 loop-less : tie.Need-loop-less Inv-loop μ-loop
-loop-less c = ?
+loop-less c = search needs
 
--- src/lib.rt:179:5
 loop-again : tie.Need-loop-again Inv-loop μ-loop
-loop-again c = ?
+loop-again c = (omega arith, omega arith, any-missed (here (c .before .before .before .before)) (c .before .strictly-inside .ensures) (c .before .before .before .before .before .before .before .loop .inv .2) (c .if3 .left))
 
--- src/lib.rt:173:1
 returns-3 : tie.Need-returns-3 Inv-loop μ-loop
-returns-3 c = ?
+returns-3 c = rw (run-end (c .before .before .before .before .before .pre) (c .before .before .loop .i) (c .if1 .left) (c .before .before .loop .inv .1)) at (c .before .before .loop .inv .2)
 
 pub any-inside-spec : {M : Type 1} → statement M
 any-inside-spec =

@@ -1,34 +1,28 @@
+-- `scans::keeps` meets its contract.
+use native.Mathlib.Omega.{arith}
+use borrow.Author.Tests.{not-true, not-false}
+use Rattle.scans.proofs.Cover.{keeps-no, keeps-first, keeps-later, positive}
 use borrow.Author.Needs.{needs}
 use Rattle.scans.proofs.keeps.Statement.{statement}
 use Rattle.scans.proofs.keeps.Tie as tie
-use Rattle.scans.proofs.keeps.Reads as reads
-use Rattle.scans.proofs.keeps.Lts as lts
-use Rattle.address.proofs.numbers_at_most.Reads as numbers-at-most-reads
-use Rattle.scans.proofs.strictly_inside.Reads as strictly-inside-reads
 
--- src/lib.rt:78:9
 strictly-inside-requires : tie.Need-strictly-inside-requires
 strictly-inside-requires c κs = search needs
 
--- src/lib.rt:79:9
 returns : tie.Need-returns
-returns c = ?
+returns c = keeps-no _ _ (c .before .strictly-inside .ensures) _ (not-true _ (c .if1 .taken))
 
--- src/lib.rt:82:9
 returns-2 : tie.Need-returns-2
-returns-2 c = ?
+returns-2 c = keeps-first _ _ (c .before .before .strictly-inside .ensures) _ _ (not-false _ (c .before .if1 .left)) (c .if2 .taken)
 
--- src/lib.rt:84:49
 add-numbers-at-most : tie.Need-add-numbers-at-most
-add-numbers-at-most c = ?
+add-numbers-at-most c = let h = c .before .before .before .before .pre .1 (positive _ (c .if2 .left)) in record { fits = omega arith }
 
--- src/lib.rt:84:6
 numbers-at-most-requires : tie.Need-numbers-at-most-requires
-numbers-at-most-requires c κs = ?
+numbers-at-most-requires c κs = let h = c .before .before .before .before .pre .1 (positive _ (c .if2 .left)) in (c .before .before .before .before .pre .0 .wide, omega arith, omega arith)
 
--- src/lib.rt:73:1
 returns-3 : tie.Need-returns-3
-returns-3 c = ?
+returns-3 c = keeps-later _ _ (c .before .before .before .strictly-inside .ensures) _ _ (not-false _ (c .before .before .if1 .left)) (c .before .if2 .left) (c .numbers-at-most .ensures)
 
 pub keeps-spec : {M : Type 1} → statement M
 keeps-spec =

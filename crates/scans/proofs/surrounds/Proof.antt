@@ -1,34 +1,27 @@
+-- `scans::surrounds` meets its contract: covers, and where it is to be strictly, not the other way round.
+use borrow.Author.Tests.{not-true, not-false}
+use Rattle.scans.proofs.Cover.{covers-from, surrounds-no, surrounds-strictly, surrounds-yes}
 use borrow.Author.Needs.{needs}
 use Rattle.scans.proofs.surrounds.Statement.{statement}
 use Rattle.scans.proofs.surrounds.Tie as tie
-use Rattle.scans.proofs.surrounds.Reads as reads
-use Rattle.scans.proofs.surrounds.Lts as lts
-use Rattle.address.proofs.at_most_at.Reads as at-most-at-reads
-use Rattle.scans.proofs.inside.Reads as inside-reads
 
--- src/lib.rt:63:39
 add-at-most-at : tie.Need-add-at-most-at
 add-at-most-at c = search needs
 
--- src/lib.rt:63:9
 at-most-at-requires : tie.Need-at-most-at-requires
 at-most-at-requires c κs = search needs
 
--- src/lib.rt:64:9
 returns : tie.Need-returns
-returns c = ?
+returns c = surrounds-no (c .before .before .before .args .strict) _ _ (covers-from _ _ (c .before .before .before .pre .1) (c .before .at-most-at .ensures)) (not-true _ (c .if1 .taken))
 
--- src/lib.rt:67:17
 inside-requires : tie.Need-inside-requires
 inside-requires c κs = search needs
 
--- src/lib.rt:67:9
 returns-2 : tie.Need-returns-2
-returns-2 c = ?
+returns-2 c = surrounds-strictly (c .before .before .before .before .before .args .strict) _ _ (covers-from _ _ (c .before .before .before .before .before .pre .1) (c .before .before .before .at-most-at .ensures)) (not-false _ (c .before .before .if1 .left)) (c .before .if2 .taken) (c .inside .ensures)
 
--- src/lib.rt:59:1
 returns-3 : tie.Need-returns-3
-returns-3 c = ?
+returns-3 c = surrounds-yes (c .before .before .before .before .args .strict) _ _ (covers-from _ _ (c .before .before .before .before .pre .1) (c .before .before .at-most-at .ensures)) (not-false _ (c .before .if1 .left)) (c .if2 .left)
 
 pub surrounds-spec : {M : Type 1} → statement M
 surrounds-spec =
