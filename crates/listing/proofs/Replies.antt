@@ -2,7 +2,7 @@
 use Prim.Native.Nat.{ℕ, _+_, _≤_, _<_}
 use mathlib.Core.Path.{_≡_, refl, sym, ap, _∙_}
 use mathlib.Core.Bool.{true, false}
-use mathlib.Core.List.{List, _∷_, _++_}
+use mathlib.Core.List.{List, [], _∷_, _++_}
 use native.Mathlib.Omega.{arith}
 use native.Mathlib.Numerals.{add-one}
 use borrow.Author.Tests.{lt-ltb, le-ltb}
@@ -30,3 +30,7 @@ module _ (found list : List ℕ) where
       → Reported found list after (Done (length found))
   unfolding listedOf listAfterwards
   done-reply i h e g = record { answer = rw (le-ltb _ _ h); written = rw (le-ltb _ _ h) (rw (e, take-length found) at g) }
+
+-- nothing found
+pub nothing-reported : (list : List ℕ) → Reported [] list list (Done 0)
+nothing-reported list = done-reply [] list 0 (omega arith) refl refl
