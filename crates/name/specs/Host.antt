@@ -6,18 +6,17 @@ use mathlib.Core.Bool.{Bool, true, cond, not, _&&_, _||_}
 use lib.Dec.{eqb, leb}
 use lib.ListN.{length, getD, take}
 use Rattle.address.specs.Lists.{within, every}
+use Rattle.pieces.specs.Ascii.{isAlphanumeric}
 use Rattle.pieces.specs.Split.{split}
 
 -- a letter, a digit or a hyphen
 unfoldable pub isLabelByte : ℕ → Bool
-isLabelByte c =
-    within (code "0") (code "9") c || within (code "A") (code "Z") c || within (code "a") (code "z") c
-    || eqb c (code "-")
+isLabelByte c = isAlphanumeric c || eqb c (code "-")
 
 -- 1 to 63 such bytes, with no hyphen at either end
 unfoldable pub isLabel : List ℕ → Bool
 isLabel s =
-    leb 1 (length s) && leb (length s) 63
+    within 1 63 (length s)
     && not (eqb (getD s 0 0) (code "-")) && not (eqb (getD s (length s - 1) 0) (code "-"))
     && every isLabelByte s
 
