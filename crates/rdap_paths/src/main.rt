@@ -4,50 +4,10 @@
 //
 // For each path one line: status, reason, kind, count and the record numbers, as `200 0 2 1 0`.
 // PATHS is read in a stream and may be of any length. IMAGE has at most 65,536 bytes.
+ghost use Prim.Native.Nat.{_+_, _≤_};
+ghost use lib.ListN.{length};
 use libc::STDERR_FILENO;
 use libc::STDOUT_FILENO;
-
-// The output: bytes at the start of a buffer, and how many. A line has at most some 20,500 bytes.
-
-fn put(out: &mut [u8; 65536], at: usize, b: u8) -> usize {
-    if at < 65536 {
-        out[at] = b;
-        return at + 1;
-    }
-    at
-}
-
-fn put_bytes(out: &mut [u8; 65536], from: usize, s: &[u8]) -> usize {
-    let mut at = from;
-    for i in 0..s.len() {
-        at = put(out, at, s[i]);
-    }
-    at
-}
-
-fn put_number(out: &mut [u8; 65536], at: usize, n: u32) -> usize {
-    let mut text = [0u8; 20];
-    let k = io::decimal(n as u64, &mut text);
-    put_bytes(out, at, &text[..k])
-}
-
-// A space and a number.
-fn put_next(out: &mut [u8; 65536], at: usize, n: u32) -> usize {
-    let at = put(out, at, b' ');
-    put_number(out, at, n)
-}
-
-// The first record numbers of the list, so many.
-fn put_records(out: &mut [u8; 65536], from: usize, list: &[u32], count: usize) -> usize {
-    let mut at = from;
-    for i in 0..list.len() {
-        if count <= i {
-            return at;
-        }
-        at = put_next(out, at, list[i]);
-    }
-    at
-}
 
 fn write_out(bytes: &[u8]) {
     if !io::write_all(STDOUT_FILENO, bytes) {
@@ -62,35 +22,22 @@ fn flush(out: &[u8], at: usize) {
     }
 }
 
-// Writes out what was put, unless another line surely fits behind it.
-fn make_room(out: &[u8; 65536], at: usize) -> usize {
-    if at < 32768 {
+// Where the next line goes: after what was put, if every line fits there; else that is written out.
+fn make_room(out: &[u8; 65536], at: usize) -> usize
+    ensures { λ r. ⌜ r + 45100 ≤ 65536 ⌝ }
+{
+    if at <= 65536 - lines::ROOM {
         return at;
     }
     flush(out, at);
     0
 }
 
-// Answers a path.
-fn put_answer(
-    path: &[u8],
-    image: &[u8],
-    list: &mut [u32; 4096],
-    out: &mut [u8; 65536],
-    at: usize,
-) -> usize {
-    let a = rdap::answer(path, image, list);
-    let kind = a.kind;
-    let reason = a.reason;
-    let count = a.count;
-    let at = put_number(out, at, a.status);
-    let at = put_next(out, at, reason);
-    let at = put_next(out, at, rdap::kind_number(kind));
-    let at = put_next(out, at, count);
-    let found = if reason == 0 { count } else { 0 };
-    let at = put_records(out, at, list, found as usize);
-    let at = put(out, at, b'\n');
-    make_room(out, at)
+// Answers a path, and puts its line there.
+fn put_line(path: &[u8], image: &[u8], list: &mut [u32; 4096], out: &mut [u8], at: usize) -> usize
+    requires { ⌜ at + 45100 ≤ length (now out) ⌝ }
+{
+    at + lines::put_answer(path, image, list, &mut out[at..])
 }
 
 // How many bytes of a line are kept, and how many of the output are put.
@@ -117,9 +64,9 @@ fn end_line(
     out: &mut [u8; 65536],
 ) -> Kept {
     let len = kept.line;
-    let mut at = kept.out;
+    let mut at = make_room(out, kept.out);
     if len <= line.len() {
-        at = put_answer(&line[..len], image, list, out, at);
+        at = put_line(&line[..len], image, list, out, at);
     }
     Kept { line: 0, out: at }
 }

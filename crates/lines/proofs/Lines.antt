@@ -1,0 +1,61 @@
+-- The parts of a line; and an answer with the record numbers that it reports is the reply.
+use Prim.Native.Nat.{ℕ, _≤_, _<_}
+use mathlib.Core.Path.{_≡_, refl, sym, ap, _∙_}
+use mathlib.Core.Bool.{Bool, true, false, cond}
+use mathlib.Core.List.{List, [], _∷_, _++_, append-assoc}
+use native.Mathlib.Omega.{arith}
+use borrow.Author.Tests.{lt-ltb, le-ltb, eqb-true, eqb-false}
+use lib.Dec.{eqb}
+use lib.ListN.{length, take, drop}
+use lib.Seq.{take-at}
+use Rattle.numeral.specs.Decimal.{decimalText}
+use Rattle.rdap.specs.declared.answers.Answer.{Answer}
+use Rattle.rdap.specs.Calls.{Reply, kindNumber, listAfter, line}
+use Rattle.rdap.specs.Answered.{replyOf, Answered}
+use Rattle.rdap.specs.Replies.{Consistent}
+use Rattle.lines.specs.Line.{following, spaced, lineText, textIn, Lined}
+use Rattle.lines.specs.Writing.{Written, reportedOf}
+use Rattle.lines.proofs.Writing.{following-append}
+
+pub line-parts : (a : Answer) (records : List ℕ) → lineText (replyOf a records) ≡ spaced (line (replyOf a [])) ++ following records ++ (10 ∷ [])
+unfolding lineText spaced line replyOf
+line-parts a records =
+    let head : List ℕ = a .reason ∷ kindNumber (a .kind) ∷ a .count ∷ [] in
+    ap (λ (t : List ℕ). t ++ (10 ∷ []))
+    (ap (λ (t : List ℕ). decimalText (a .status) ++ t) (following-append head records) ∙ sym (append-assoc (decimalText (a .status)) (following head) (following records)))
+
+module _ {places : ℕ} {reply : Reply} {a : Answer} {before after : List ℕ} (k : Consistent places reply) (h : Answered reply a before after) where
+  same-reason : a .reason ≡ reply .reason
+  unfolding replyOf
+  same-reason = ap (λ (r : Reply). r .reason) (h .numbers)
+
+  same-count : a .count ≡ reply .count
+  unfolding replyOf
+  same-count = ap (λ (r : Reply). r .count) (h .numbers)
+
+  -- under reason 0 the first count numbers of the list are the reply's; else it has none
+  reported : (reportedOf a ≤ places) × (take (reportedOf a) after ≡ reply .records)
+  unfolding reportedOf listAfter
+  reported = go (eqb (a .reason) 0) refl
+    where
+      go : (t : Bool) → eqb (a .reason) 0 ≡ t → (cond t (a .count) 0 ≤ places) × (take (cond t (a .count) 0) after ≡ reply .records)
+      go true e =
+          let n = k .answered (sym same-reason ∙ eqb-true (a .reason) 0 e) in
+          (omega (arith, same-count, n .1), ap (take (a .count)) (h .list) ∙ take-at (reply .records) _ (a .count) (sym (n .0) ∙ sym same-count))
+      go false e = (omega arith, sym (k .unreported (omega (arith, eqb-false (a .reason) 0 e, same-reason))))
+
+  pub reported-few : reportedOf a ≤ places
+  reported-few = reported .0
+
+  pub reported-are : replyOf a (take (reportedOf a) after) ≡ reply
+  reported-are = ap (replyOf a) (reported .1) ∙ h .numbers
+
+-- the two answers
+module _ {reply : Reply} {list list′ out : List ℕ} (e : list′ ≡ listAfter reply list) where
+  pub no-room : length out < 45100 → Lined reply list list′ out out 0
+  unfolding textIn
+  no-room h = record { bytes = rw (lt-ltb _ _ h); text = rw (lt-ltb _ _ h); records = e }
+
+  pub line-put : {out′ : List ℕ} {most n : ℕ} → 45100 ≤ length out → Written (lineText reply) most out out′ n → Lined reply list list′ out out′ n
+  unfolding textIn
+  line-put h w = record { bytes = rw (le-ltb _ _ h) (w .bytes); text = rw (le-ltb _ _ h) (w .is); records = e }

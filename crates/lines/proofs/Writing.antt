@@ -1,0 +1,83 @@
+-- Laws of text written to the start of a buffer: one text after another, a byte more, the numbers of a line.
+use Prim.Native.Nat.{ℕ, suc, _+_, _-_, _*_, _^_, _≤_, _<_}
+use mathlib.Core.Path.{_≡_, refl, sym, ap, _∙_}
+use mathlib.Core.List.{List, [], _∷_, _++_, append-assoc, append-nil}
+use native.Mathlib.Omega.{arith}
+use native.Mathlib.Numerals.{add-one}
+use lib.ListN.{length, take, drop, set, getD, length-append, length-drop, drop-of-length-le}
+use lib.Seq.{take-at, drop-at, drop-drop, drop-cons, set-at, append-snoc, take-suc}
+use borrow.Rule.Slice.PartMut.{putMid}
+use Rattle.pieces.proofs.Pieces.{rest-is}
+use Rattle.io.specs.Digits.{digits, Fewest}
+use Rattle.numeral.specs.Decimal.{decimalText}
+use Rattle.numeral.proofs.Decimal.{decimal-few}
+use Rattle.lines.specs.Line.{following}
+use Rattle.lines.specs.Writing.{Written}
+use Rattle.lines.proofs.Digits.{decimal-is}
+
+pub written-nothing : (a : List ℕ) → Written [] 0 a a 0
+written-nothing a = record { bytes = refl; few = omega arith; is = refl }
+
+pub at-most : {s a b : List ℕ} {p q n : ℕ} → p ≤ q → Written s p a b n → Written s q a b n
+at-most h u = record { bytes = u .bytes; few = omega (arith, u .few); is = u .is }
+
+-- the rest of a buffer, as it is lent
+pub rest-length : (b : List ℕ) (m : ℕ) → length (take (length b - m) (drop m b)) ≡ length b - m
+rest-length b m = ap length (rest-is b m) ∙ length-drop m b
+
+-- one text after another: the second goes to the rest of the buffer
+pub written-both :
+    {s t a b c : List ℕ} {p q m n : ℕ} → Written s p a b m → Written t q (take (length b - m) (drop m b)) c n
+    → Written (s ++ t) (p + q) a (putMid m (length b - m) b c) (m + n)
+written-both {s} {t} {a} {b} {c} {p} {q} {m} {n} u v =
+    let i = u .bytes in
+    let j = v .bytes in
+    let front : take m b ≡ s = ap (take m) (u .is) ∙ take-at s (drop m a) m (sym i) in
+    let rest : drop m b ≡ drop m a = ap (drop m) (u .is) ∙ drop-at s (drop m a) m (sym i) in
+    let none : drop (length b - m) (drop m b) ≡ [] = drop-of-length-le (drop m b) {i = length b - m} (omega (arith, length-drop m b)) in
+    let second : c ≡ t ++ drop (m + n) a = v .is ∙ rw (rest-is b m, rest, drop-drop n m a) in
+    record {
+      bytes = omega (arith, length-append s t);
+      few = omega (arith, u .few, v .few);
+      is = rw (none, append-nil, front, second) (sym (append-assoc s t (drop (m + n) a)));
+    }
+
+-- one byte more
+pub written-byte : {s a b : List ℕ} {p m : ℕ} (x : ℕ) → m < length b → Written s p a b m → Written (s ++ (x ∷ [])) (p + 1) a (set b m x) (m + 1)
+written-byte {s} {a} {b} {p} {m} x h u =
+    let i = u .bytes in
+    let inside : m < length a = omega (arith, ap length (u .is) ∙ length-append s (drop m a), length-drop m a) in
+    record {
+      bytes = omega (arith, length-append s (x ∷ []));
+      few = omega (arith, u .few);
+      is = rw (u .is, drop-cons a m 0 inside, add-one m) (set-at s (getD a m 0) (drop (suc m) a) x m (sym i) ∙ sym (append-snoc s x (drop (suc m) a)));
+    }
+
+-- a number of 32 bits has at most ten digits
+module _ {n k : ℕ} {bytes : List ℕ} (h : n < 2 ^ 32) (f : Fewest 10 1 n k) (e : bytes ≡ digits 10 k n) (l : k ≡ length bytes) where
+  pub few-digits : k ≤ 10
+  few-digits = omega (arith, decimal-few n 9 (omega arith), ap length (e ∙ decimal-is n k f))
+
+  pub number-written : {before after : List ℕ} → after ≡ bytes ++ drop (length bytes) before → Written (decimalText n) 10 before after k
+  number-written {before} w =
+      let d : bytes ≡ decimalText n = e ∙ decimal-is n k f in
+      record { bytes = l ∙ ap length d; few = few-digits; is = w ∙ rw (← l, d) }
+
+-- Numbers, each after a space
+
+pub following-append : (xs ys : List ℕ) → following (xs ++ ys) ≡ following xs ++ following ys
+unfolding following
+following-append [] ys = refl
+following-append (x ∷ xs) ys = rw (following-append xs ys) (sym (append-assoc (32 ∷ decimalText x) (following xs) (following ys)))
+
+following-one : (n : ℕ) → following (n ∷ []) ≡ 32 ∷ decimalText n
+unfolding following
+following-one n = append-nil (32 ∷ decimalText n)
+
+pub next-written :
+    (numbers : List ℕ) {a b c : List ℕ} {i m n : ℕ} → i < length numbers → Written (following (take i numbers)) (11 * i) a b m
+    → Written (32 ∷ decimalText (getD numbers i 0)) 11 (take (length b - m) (drop m b)) c n
+    → Written (following (take (i + 1) numbers)) (11 * (i + 1)) a (putMid m (length b - m) b c) (m + n)
+next-written numbers {i = i} h u v =
+    rw (add-one i, take-suc numbers i 0 h, following-append (take i numbers) (getD numbers i 0 ∷ []), following-one (getD numbers i 0))
+    (at-most (omega arith) (written-both u v))
