@@ -1,13 +1,14 @@
 -- The parts of a line; and an answer with the record numbers that it reports is the reply.
-use Prim.Native.Nat.{ℕ, _≤_, _<_}
+use Prim.Native.Nat.{ℕ, _+_, _-_, _≤_, _<_}
 use mathlib.Core.Path.{_≡_, refl, sym, ap, _∙_}
 use mathlib.Core.Bool.{Bool, true, false, cond}
 use mathlib.Core.List.{List, [], _∷_, _++_, append-assoc}
 use native.Mathlib.Omega.{arith}
 use borrow.Author.Tests.{lt-ltb, le-ltb, eqb-true, eqb-false}
 use lib.Dec.{eqb}
-use lib.ListN.{length, take, drop}
-use lib.Seq.{take-at}
+use lib.ListN.{length, take, drop, length-append, length-drop, take-append-drop}
+use lib.Seq.{take-at, length-take-le}
+use borrow.Rule.Slice.PartMut.{putMid}
 use Rattle.numeral.specs.Decimal.{decimalText}
 use Rattle.rdap.specs.declared.answers.Answer.{Answer}
 use Rattle.rdap.specs.Calls.{Reply, kindNumber, listAfter, line}
@@ -15,7 +16,7 @@ use Rattle.rdap.specs.Answered.{replyOf, Answered}
 use Rattle.rdap.specs.Replies.{Consistent}
 use Rattle.lines.specs.Line.{following, spaced, lineText, textIn, Lined}
 use Rattle.lines.specs.Writing.{Written, reportedOf}
-use Rattle.lines.proofs.Writing.{following-append}
+use Rattle.lines.proofs.Writing.{rest-length, written-both, following-append}
 
 pub line-parts : (a : Answer) (records : List ℕ) → lineText (replyOf a records) ≡ spaced (line (replyOf a [])) ++ following records ++ (10 ∷ [])
 unfolding lineText spaced line replyOf
@@ -56,6 +57,23 @@ module _ {reply : Reply} {list list′ out : List ℕ} (e : list′ ≡ listAfte
   unfolding textIn
   no-room h = record { bytes = rw (lt-ltb _ _ h); text = rw (lt-ltb _ _ h); records = e }
 
-  pub line-put : {out′ : List ℕ} {most n : ℕ} → 45100 ≤ length out → Written (lineText reply) most out out′ n → Lined reply list list′ out out′ n
+  pub line-put : {out′ : List ℕ} {n : ℕ} → 45100 ≤ length out → Written (lineText reply) out out′ n → Lined reply list list′ out out′ n
   unfolding textIn
   line-put h w = record { bytes = rw (le-ltb _ _ h) (w .bytes); text = rw (le-ltb _ _ h) (w .is); records = e }
+
+-- for a caller that lends the rest of a buffer with room for every line
+module _ (out : List ℕ) (at : ℕ) {reply : Reply} {list list′ rest : List ℕ} {n : ℕ} (l : Lined reply list list′ (take (length out - at) (drop at out)) rest n) where
+  pub line-fits : length rest ≡ length (take (length out - at) (drop at out)) → n ≤ length out - at
+  line-fits e =
+      let text : List ℕ = textIn reply (length (take (length out - at) (drop at out))) in
+      omega (arith, l .bytes, e, rest-length out at, ap length (l .text) ∙ length-append text _, length-drop n (take (length out - at) (drop at out)))
+
+  pub line-at : at + 45100 ≤ length out → Written (take at out ++ lineText reply) out (putMid at (length out - at) out rest) (at + n)
+  unfolding textIn
+  line-at h =
+      let room : 45100 ≤ length (take (length out - at) (drop at out)) = rw rest-length (omega arith) in
+      let there : Written (take at out) out out at = record { bytes = sym (length-take-le at out (omega arith)); is = sym (take-append-drop at out) } in
+      let put : Written (lineText reply) (take (length out - at) (drop at out)) rest n =
+      record { bytes = rw (le-ltb _ _ room) at (l .bytes); is = rw (le-ltb _ _ room) at (l .text) }
+      in
+      written-both there put

@@ -15,11 +15,8 @@ use Rattle.lines.specs.Line.{following}
 use Rattle.lines.specs.Writing.{Written}
 use Rattle.lines.proofs.Digits.{decimal-is}
 
-pub written-nothing : (a : List ℕ) → Written [] 0 a a 0
-written-nothing a = record { bytes = refl; few = omega arith; is = refl }
-
-pub at-most : {s a b : List ℕ} {p q n : ℕ} → p ≤ q → Written s p a b n → Written s q a b n
-at-most h u = record { bytes = u .bytes; few = omega (arith, u .few); is = u .is }
+pub written-nothing : (a : List ℕ) → Written [] a a 0
+written-nothing a = record { bytes = refl; is = refl }
 
 -- the rest of a buffer, as it is lent
 pub rest-length : (b : List ℕ) (m : ℕ) → length (take (length b - m) (drop m b)) ≡ length b - m
@@ -27,9 +24,9 @@ rest-length b m = ap length (rest-is b m) ∙ length-drop m b
 
 -- one text after another: the second goes to the rest of the buffer
 pub written-both :
-    {s t a b c : List ℕ} {p q m n : ℕ} → Written s p a b m → Written t q (take (length b - m) (drop m b)) c n
-    → Written (s ++ t) (p + q) a (putMid m (length b - m) b c) (m + n)
-written-both {s} {t} {a} {b} {c} {p} {q} {m} {n} u v =
+    {s t a b c : List ℕ} {m n : ℕ} → Written s a b m → Written t (take (length b - m) (drop m b)) c n
+    → Written (s ++ t) a (putMid m (length b - m) b c) (m + n)
+written-both {s} {t} {a} {b} {c} {m} {n} u v =
     let i = u .bytes in
     let j = v .bytes in
     let front : take m b ≡ s = ap (take m) (u .is) ∙ take-at s (drop m a) m (sym i) in
@@ -38,18 +35,16 @@ written-both {s} {t} {a} {b} {c} {p} {q} {m} {n} u v =
     let second : c ≡ t ++ drop (m + n) a = v .is ∙ rw (rest-is b m, rest, drop-drop n m a) in
     record {
       bytes = omega (arith, length-append s t);
-      few = omega (arith, u .few, v .few);
       is = rw (none, append-nil, front, second) (sym (append-assoc s t (drop (m + n) a)));
     }
 
 -- one byte more
-pub written-byte : {s a b : List ℕ} {p m : ℕ} (x : ℕ) → m < length b → Written s p a b m → Written (s ++ (x ∷ [])) (p + 1) a (set b m x) (m + 1)
-written-byte {s} {a} {b} {p} {m} x h u =
+pub written-byte : {s a b : List ℕ} {m : ℕ} (x : ℕ) → m < length b → Written s a b m → Written (s ++ (x ∷ [])) a (set b m x) (m + 1)
+written-byte {s} {a} {b} {m} x h u =
     let i = u .bytes in
     let inside : m < length a = omega (arith, ap length (u .is) ∙ length-append s (drop m a), length-drop m a) in
     record {
       bytes = omega (arith, length-append s (x ∷ []));
-      few = omega (arith, u .few);
       is = rw (u .is, drop-cons a m 0 inside, add-one m) (set-at s (getD a m 0) (drop (suc m) a) x m (sym i) ∙ sym (append-snoc s x (drop (suc m) a)));
     }
 
@@ -58,10 +53,10 @@ module _ {n k : ℕ} {bytes : List ℕ} (h : n < 2 ^ 32) (f : Fewest 10 1 n k) (
   pub few-digits : k ≤ 10
   few-digits = omega (arith, decimal-few n 9 (omega arith), ap length (e ∙ decimal-is n k f))
 
-  pub number-written : {before after : List ℕ} → after ≡ bytes ++ drop (length bytes) before → Written (decimalText n) 10 before after k
+  pub number-written : {before after : List ℕ} → after ≡ bytes ++ drop (length bytes) before → Written (decimalText n) before after k
   number-written {before} w =
       let d : bytes ≡ decimalText n = e ∙ decimal-is n k f in
-      record { bytes = l ∙ ap length d; few = few-digits; is = w ∙ rw (← l, d) }
+      record { bytes = l ∙ ap length d; is = w ∙ rw (← l, d) }
 
 -- Numbers, each after a space
 
@@ -75,9 +70,8 @@ unfolding following
 following-one n = append-nil (32 ∷ decimalText n)
 
 pub next-written :
-    (numbers : List ℕ) {a b c : List ℕ} {i m n : ℕ} → i < length numbers → Written (following (take i numbers)) (11 * i) a b m
-    → Written (32 ∷ decimalText (getD numbers i 0)) 11 (take (length b - m) (drop m b)) c n
-    → Written (following (take (i + 1) numbers)) (11 * (i + 1)) a (putMid m (length b - m) b c) (m + n)
+    (numbers : List ℕ) {a b c : List ℕ} {i m n : ℕ} → i < length numbers → Written (following (take i numbers)) a b m
+    → Written (32 ∷ decimalText (getD numbers i 0)) (take (length b - m) (drop m b)) c n
+    → Written (following (take (i + 1) numbers)) a (putMid m (length b - m) b c) (m + n)
 next-written numbers {i = i} h u v =
-    rw (add-one i, take-suc numbers i 0 h, following-append (take i numbers) (getD numbers i 0 ∷ []), following-one (getD numbers i 0))
-    (at-most (omega arith) (written-both u v))
+    rw (add-one i, take-suc numbers i 0 h, following-append (take i numbers) (getD numbers i 0 ∷ []), following-one (getD numbers i 0)) (written-both u v)

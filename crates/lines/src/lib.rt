@@ -26,7 +26,7 @@ fn put_bytes(s: &[u8], out: &mut [u8])
 // A number in decimal digits.
 fn put_number(n: u32, out: &mut [u8]) -> usize
     requires { ⌜ 10 ≤ length (now out) ⌝ }
-    ensures { λ r. ⌜ Written (decimalText n) 10 (now (out .entry)) (now (out .exit)) r ⌝ }
+    ensures { λ r. ⌜ Written (decimalText n) (now (out .entry)) (now (out .exit)) r × (r ≤ 10) ⌝ }
 {
     let mut text = [0u8; 20];
     let k = io::decimal(n as u64, &mut text);
@@ -37,7 +37,7 @@ fn put_number(n: u32, out: &mut [u8]) -> usize
 // A space and a number.
 fn put_next(n: u32, out: &mut [u8]) -> usize
     requires { ⌜ 11 ≤ length (now out) ⌝ }
-    ensures { λ r. ⌜ Written (32 ∷ decimalText n) 11 (now (out .entry)) (now (out .exit)) r ⌝ }
+    ensures { λ r. ⌜ Written (32 ∷ decimalText n) (now (out .entry)) (now (out .exit)) r × (r ≤ 11) ⌝ }
 {
     out[0] = b' ';
     1 + put_number(n, &mut out[1..])
@@ -46,7 +46,7 @@ fn put_next(n: u32, out: &mut [u8]) -> usize
 // A space and a number, for each.
 fn put_following(numbers: &[u32], out: &mut [u8]) -> usize
     requires { ⌜ 11 * length (now numbers) ≤ length (now out) ⌝ }
-    ensures { λ r. ⌜ Written (following (now (numbers .entry))) (11 * length (now (numbers .entry))) (now (out .entry)) (now (out .exit)) r ⌝ }
+    ensures { λ r. ⌜ Written (following (now (numbers .entry))) (now (out .entry)) (now (out .exit)) r × (r ≤ 11 * length (now (numbers .entry))) ⌝ }
 {
     let mut at: usize = 0;
     for i in 0..numbers.len() {
@@ -58,7 +58,7 @@ fn put_following(numbers: &[u32], out: &mut [u8]) -> usize
 // Status, reason, kind and count of an answer.
 fn put_head(a: Answer, out: &mut [u8]) -> usize
     requires { ⌜ 43 ≤ length (now out) ⌝ }
-    ensures { λ r. ⌜ Written (spaced (line (replyOf a []))) 43 (now (out .entry)) (now (out .exit)) r ⌝ }
+    ensures { λ r. ⌜ Written (spaced (line (replyOf a []))) (now (out .entry)) (now (out .exit)) r × (r ≤ 43) ⌝ }
 {
     let kind = a.kind;
     let numbers = [a.reason, rdap::kind_number(kind), a.count];
@@ -69,7 +69,7 @@ fn put_head(a: Answer, out: &mut [u8]) -> usize
 // The line of an answer that reports the first record numbers of the list, so many.
 fn put_line(a: Answer, list: &[u32], reported: usize, out: &mut [u8]) -> usize
     requires { ⌜ (reported ≤ length (now list)) × (44 + 11 * reported ≤ length (now out)) ⌝ }
-    ensures { λ r. ⌜ Written (lineText (replyOf a (take reported (now (list .entry))))) (44 + 11 * reported) (now (out .entry)) (now (out .exit)) r ⌝ }
+    ensures { λ r. ⌜ Written (lineText (replyOf a (take reported (now (list .entry))))) (now (out .entry)) (now (out .exit)) r ⌝ }
 {
     let mut at = put_head(a, out);
     at += put_following(&list[..reported], &mut out[at..]);

@@ -4,10 +4,16 @@
 //
 // For each path one line: status, reason, kind, count and the record numbers, as `200 0 2 1 0`.
 // PATHS is read in a stream and may be of any length. IMAGE has at most 65,536 bytes.
-ghost use Prim.Native.Nat.{_+_, _≤_};
-ghost use lib.ListN.{length};
+ghost use Prim.Native.Nat.{_+_, _≤_, _<_};
+ghost use mathlib.Core.List.{_++_};
+ghost use lib.ListN.{length, take};
+ghost use Rattle.rdap.specs.Calls.{answerOf};
+ghost use Rattle.lines.specs.Line.{lineText};
+ghost use Rattle.lines.specs.Writing.{Written};
 use libc::STDERR_FILENO;
 use libc::STDOUT_FILENO;
+
+// The output: what was put stands at the start of a buffer of 32,768 bytes and room for a line.
 
 fn write_out(bytes: &[u8]) {
     if !io::write_all(STDOUT_FILENO, bytes) {
@@ -22,20 +28,21 @@ fn flush(out: &[u8], at: usize) {
     }
 }
 
-// Where the next line goes: after what was put, if every line fits there; else that is written out.
-fn make_room(out: &[u8; 65536], at: usize) -> usize
-    ensures { λ r. ⌜ r + 45100 ≤ 65536 ⌝ }
+// Where the next line goes: after what was put, while that is short; else what was put is written out first.
+fn make_room(out: &[u8; 77868], at: usize) -> usize
+    ensures { λ r. ⌜ r < 32768 ⌝ }
 {
-    if at <= 65536 - lines::ROOM {
+    if at < 32768 {
         return at;
     }
     flush(out, at);
     0
 }
 
-// Answers a path, and puts its line there.
+// Answers a path, and puts its line there. Gives where the line ends.
 fn put_line(path: &[u8], image: &[u8], list: &mut [u32; 4096], out: &mut [u8], at: usize) -> usize
     requires { ⌜ at + 45100 ≤ length (now out) ⌝ }
+    ensures { λ r. ⌜ Written (take at (now (out .entry)) ++ lineText (answerOf (now (path .entry)) (now (image .entry)) 4096)) (now (out .entry)) (now (out .exit)) r ⌝ }
 {
     at + lines::put_answer(path, image, list, &mut out[at..])
 }
@@ -61,7 +68,7 @@ fn end_line(
     kept: Kept,
     image: &[u8],
     list: &mut [u32; 4096],
-    out: &mut [u8; 65536],
+    out: &mut [u8; 77868],
 ) -> Kept {
     let len = kept.line;
     let mut at = make_room(out, kept.out);
@@ -77,7 +84,7 @@ fn take_byte(
     kept: Kept,
     image: &[u8],
     list: &mut [u32; 4096],
-    out: &mut [u8; 65536],
+    out: &mut [u8; 77868],
 ) -> Kept {
     if b == b'\n' {
         return end_line(line, kept, image, list, out);
@@ -94,7 +101,7 @@ fn take_bytes(
     before: Kept,
     image: &[u8],
     list: &mut [u32; 4096],
-    out: &mut [u8; 65536],
+    out: &mut [u8; 77868],
 ) -> Kept {
     let mut kept = before;
     for i in 0..bytes.len() {
@@ -111,7 +118,7 @@ fn take_read(
     kept: Kept,
     image: &[u8],
     list: &mut [u32; 4096],
-    out: &mut [u8; 65536],
+    out: &mut [u8; 77868],
 ) -> Kept {
     let n = io::count(got, chunk);
     take_bytes(&chunk[..n], line, kept, image, list, out)
@@ -123,7 +130,7 @@ fn finish(
     kept: Kept,
     image: &[u8],
     list: &mut [u32; 4096],
-    out: &mut [u8; 65536],
+    out: &mut [u8; 77868],
 ) {
     let len = kept.line;
     let mut at = kept.out;
@@ -138,7 +145,7 @@ fn finish(
 fn answer_lines(fd: i32, name: &[u8], chunk: &mut [u8], first: isize, image: &[u8]) {
     let mut line = [0u8; 1025];
     let mut list = [0u32; 4096];
-    let mut out = [0u8; 65536];
+    let mut out = [0u8; 77868];
     let mut kept = Kept { line: 0, out: 0 };
     let mut got = first;
     let mut turns = u64::MAX;

@@ -13,14 +13,14 @@ use Rattle.lines.proofs.put_following.Tie as tie
 
 abbrev Inv-loop : tie.InvT-loop
 Inv-loop numbers out₀ at₀ i₀ i-end out at i =
-    (i-end ≡ length numbers) × (i ≤ length numbers) × (length out ≡ length out₀) × Written (following (take i numbers)) (11 * i) out₀ out at
+    (i-end ≡ length numbers) × (i ≤ length numbers) × (length out ≡ length out₀) × Written (following (take i numbers)) out₀ out at × (at ≤ 11 * i)
 
 abbrev μ-loop : tie.MeasureT-loop
 μ-loop numbers out₀ at₀ i₀ i-end out at i = length numbers - i
 
 loop-holds : tie.Need-loop-holds Inv-loop μ-loop
 unfolding following
-loop-holds c = (refl, omega arith, refl, written-nothing _)
+loop-holds c = (refl, omega arith, refl, written-nothing _, omega arith)
 
 mul-put-next : tie.Need-mul-put-next Inv-loop μ-loop
 mul-put-next c = search needs
@@ -38,10 +38,7 @@ part-put-next-end : tie.Need-part-put-next-end Inv-loop μ-loop
 part-put-next-end c = search needs
 
 put-next-requires : tie.Need-put-next-requires Inv-loop μ-loop
-put-next-requires c κs =
-    let l = c .before .before .before .loop in
-    let few = l .inv .3 .few in
-    simp rest-length (omega arith)
+put-next-requires c κs = simp rest-length (omega arith)
 
 add-at : tie.Need-add-at Inv-loop μ-loop
 add-at c = search needs
@@ -56,7 +53,7 @@ loop-again : tie.Need-loop-again Inv-loop μ-loop
 loop-again c =
     let a = c .before .before .before .before .before .before .before .before .before .args in
     let l = c .before .before .before .before .before .before .loop in
-    (refl, omega arith, c .before .out .given .1 ∙ l .inv .2, next-written (a .numbers .now) (omega arith) (l .inv .3) (c .before .before .put-next .ensures))
+    (refl, omega arith, c .before .out .given .1 ∙ l .inv .2, next-written (a .numbers .now) (omega arith) (l .inv .3) (c .before .before .put-next .ensures .0), omega arith)
 
 same-length : tie.Need-same-length Inv-loop μ-loop
 same-length c = search needs
@@ -65,7 +62,7 @@ returns : tie.Need-returns Inv-loop μ-loop
 returns c =
     let l = c .before .loop in
     let all : l .i ≡ length (c .before .before .before .before .args .numbers .now) = omega arith in
-    rw (all, take-length) at (l .inv .3)
+    (rw (all, take-length) at (l .inv .3), omega arith)
 
 pub put-following-spec : {M : Type 1} → statement M
 put-following-spec =

@@ -1,4 +1,5 @@
 -- The status, and the three numbers after it in the rest.
+use native.Mathlib.Omega.{arith}
 use Rattle.rdap.specs.Calls.{line}
 use Rattle.rdap.specs.Answered.{replyOf}
 use Rattle.lines.specs.Line.{spaced}
@@ -38,7 +39,7 @@ returns : tie.Need-returns
 unfolding spaced line replyOf
 returns c =
     let at-call = c .before .before .before .before .before .before .before in
-    rw (← at-call .before .before .kind-number .ensures) (written-both (at-call .put-number .ensures) (c .before .before .put-following .ensures))
+    (rw (← at-call .before .before .kind-number .ensures) (written-both (at-call .put-number .ensures .0) (c .before .before .put-following .ensures .0)), omega arith)
 
 pub put-head-spec : {M : Type 1} → statement M
 put-head-spec =

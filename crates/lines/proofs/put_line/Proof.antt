@@ -4,7 +4,7 @@ use mathlib.Core.Path.{_≡_, sym, _∙_}
 use native.Mathlib.Omega.{arith}
 use lib.ListN.{length, take, length-set}
 use lib.Seq.{length-take-le}
-use Rattle.lines.proofs.Writing.{at-most, rest-length, written-both, written-byte}
+use Rattle.lines.proofs.Writing.{rest-length, written-both, written-byte}
 use Rattle.lines.proofs.Lines.{line-parts}
 use borrow.Author.Needs.{needs}
 use Rattle.lines.proofs.put_line.Statement.{statement}
@@ -29,7 +29,7 @@ put-following-requires : tie.Need-put-following-requires
 put-following-requires c κs =
     let start = c .before .before .before .before .before .before .before .before in
     let head = c .before .before .before .before .put-head in
-    rw (rest-length, length-take-le (start .args .reported) (start .args .list .now) (start .pre .0)) (omega (arith, head .ensures .few, head .kept .1 .0, start .pre .1))
+    rw (rest-length, length-take-le (start .args .reported) (start .args .list .now) (start .pre .0)) (omega (arith, head .ensures .1, head .kept .1 .0, start .pre .1))
 
 abbrev start : tie.After-slice-known3 → tie.Start
 start c = c .before .before .before .before .before .before .before .before .before .before .before
@@ -42,7 +42,7 @@ taken c = length-take-le (start c .args .reported) (start c .args .list .now) (s
 
 -- what is written has room, and the line feed too
 fits : (c : tie.After-slice-known3) → head c .put-head .result + c .before .before .put-following .result + 1 ≤ length (start c .args .out .now)
-fits c = omega (arith, head c .put-head .ensures .few, c .before .before .put-following .ensures .few, taken c, start c .pre .1)
+fits c = omega (arith, head c .put-head .ensures .1, c .before .before .put-following .ensures .1, taken c, start c .pre .1)
 
 add-at : tie.Need-add-at
 add-at c = omega (arith, fits c, start c .good)
@@ -59,7 +59,7 @@ same-length c = simp length-set (c .before .out2 .given .1 ∙ head c .put-head 
 returns : tie.Need-returns
 returns c =
     rw (line-parts (start c .args .a) (take (start c .args .reported) (start c .args .list .now)))
-    (at-most (omega (arith, taken c)) (written-byte 10 (slice-write-out c) (written-both (head c .put-head .ensures) (c .before .before .put-following .ensures))))
+    (written-byte 10 (slice-write-out c) (written-both (head c .put-head .ensures .0) (c .before .before .put-following .ensures .0)))
 
 pub put-line-spec : {M : Type 1} → statement M
 put-line-spec =

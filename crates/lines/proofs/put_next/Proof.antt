@@ -31,7 +31,7 @@ same-length c = c .before .out .given .1 ∙ simp length-set
 returns : tie.Need-returns
 returns c =
     let out = c .before .before .before .before .before .args .out .now in
-    written-both (written-byte 32 (omega arith) (written-nothing out)) (c .before .before .put-number .ensures)
+    (written-both (written-byte 32 (omega arith) (written-nothing out)) (c .before .before .put-number .ensures .0), omega arith)
 
 pub put-next-spec : {M : Type 1} → statement M
 put-next-spec =

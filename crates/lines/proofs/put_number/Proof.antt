@@ -26,8 +26,8 @@ same-length c = search needs
 returns : tie.Need-returns
 returns c =
     let d = c .before .before .before .before .before .decimal in
-    let a = c .before .before .before .before .before .before .before .before in
-    number-written (a .fits .n .fits) (d .ensures .1 .0) (d .ensures .1 .1) (d .ensures .0 .1) (c .before .before .put-bytes .ensures)
+    let n = c .before .before .before .before .before .before .before .before .fits .n .fits in
+    (number-written n (d .ensures .1 .0) (d .ensures .1 .1) (d .ensures .0 .1) (c .before .before .put-bytes .ensures), few-digits n (d .ensures .1 .0) (d .ensures .1 .1) (d .ensures .0 .1))
 
 pub put-number-spec : {M : Type 1} → statement M
 put-number-spec =
