@@ -1,10 +1,9 @@
 -- The digits that `io::decimal` writes are the decimal text: the fewest digits of base 10 that hold the number.
 use Prim.Native.Nat.{ℕ, zero, suc, _+_, _-_, _/_, _%_, _^_, _≤_, _<_}
-use mathlib.Core.Bool.{cond}
-use mathlib.Core.Path.{_≡_, refl, sym, ap, _∙_}
+use mathlib.Core.Path.{_≡_, sym, _∙_}
 use mathlib.Core.List.{List, [], _∷_, _++_, append-nil}
 use native.Mathlib.Omega.{arith}
-use native.Mathlib.Nat.{one-le-pow, mod-lt, div-lt-self, div-lt-iff-lt-mul}
+use native.Mathlib.Nat.{one-le-pow, mod-lt}
 use borrow.Author.Tests.{lt-ltb, le-ltb}
 use lib.Seq.{append-snoc}
 use Rattle.io.specs.Digits.{glyph, digits, Fewest}

@@ -1,5 +1,6 @@
 -- Laws of text written to the start of a buffer: one text after another, a byte more, the numbers of a line.
-use Prim.Native.Nat.{ℕ, suc, _+_, _-_, _*_, _^_, _≤_, _<_}
+use Prim.Native.Nat.{ℕ, suc, _+_, _-_, _^_, _≤_, _<_}
+use Prim.Native.Char.{code}
 use mathlib.Core.Path.{_≡_, refl, sym, ap, _∙_}
 use mathlib.Core.List.{List, [], _∷_, _++_, append-assoc, append-nil}
 use native.Mathlib.Omega.{arith}
@@ -63,15 +64,15 @@ module _ {n k : ℕ} {bytes : List ℕ} (h : n < 2 ^ 32) (f : Fewest 10 1 n k) (
 pub following-append : (xs ys : List ℕ) → following (xs ++ ys) ≡ following xs ++ following ys
 unfolding following
 following-append [] ys = refl
-following-append (x ∷ xs) ys = rw (following-append xs ys) (sym (append-assoc (32 ∷ decimalText x) (following xs) (following ys)))
+following-append (x ∷ xs) ys = rw (following-append xs ys) (sym (append-assoc (code " " ∷ decimalText x) (following xs) (following ys)))
 
-following-one : (n : ℕ) → following (n ∷ []) ≡ 32 ∷ decimalText n
+pub following-one : (n : ℕ) → following (n ∷ []) ≡ code " " ∷ decimalText n
 unfolding following
-following-one n = append-nil (32 ∷ decimalText n)
+following-one n = append-nil (code " " ∷ decimalText n)
 
 pub next-written :
     (numbers : List ℕ) {a b c : List ℕ} {i m n : ℕ} → i < length numbers → Written (following (take i numbers)) a b m
-    → Written (32 ∷ decimalText (getD numbers i 0)) (take (length b - m) (drop m b)) c n
+    → Written (following (getD numbers i 0 ∷ [])) (take (length b - m) (drop m b)) c n
     → Written (following (take (i + 1) numbers)) a (putMid m (length b - m) b c) (m + n)
 next-written numbers {i = i} h u v =
-    rw (add-one i, take-suc numbers i 0 h, following-append (take i numbers) (getD numbers i 0 ∷ []), following-one (getD numbers i 0)) (written-both u v)
+    rw (add-one i, take-suc numbers i 0 h, following-append (take i numbers) (getD numbers i 0 ∷ [])) (written-both u v)

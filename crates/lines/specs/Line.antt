@@ -1,5 +1,5 @@
 -- The text of an output line of the small program (document 01, "What the library reads and returns").
-use Prim.Native.Nat.{ℕ, _-_}
+use Prim.Native.Nat.{ℕ, _+_, _-_, _*_}
 use Prim.Native.Char.{code}
 use mathlib.Core.Path.{_≡_}
 use mathlib.Core.Bool.{cond}
@@ -29,10 +29,13 @@ lineText r = spaced (line r) ++ (code "\n" ∷ [])
 unfoldable pub numbersIn : List ℕ → List ℕ
 numbersIn text = map (digitsFrom 10 0) (split (code " ") (take (length text - 1) text))
 
--- What is written to a buffer of so many bytes: the line, if the buffer has room for every line, 4 + 4,096 numbers of at most 10 digits with a byte after each;
--- else nothing.
+-- bytes that every line fits into: 4 + 4,096 numbers of at most 10 digits, a space or a line feed after each
+abbrev pub room : ℕ
+room = (4 + 4096) * (10 + 1)
+
+-- What is written to a buffer of so many bytes: the line, if every line fits, else nothing.
 unfoldable pub textIn : Reply → ℕ → List ℕ
-textIn r size = cond (ltb size 45100) [] (lineText r)
+textIn r size = cond (ltb size room) [] (lineText r)
 
 -- What a call that writes a reply's line to the start of a buffer promises: the number of bytes written, the whole buffer and the whole list afterwards.
 pub record Lined (reply : Reply) (list list′ out out′ : List ℕ) (n : ℕ) : Type 0 where

@@ -10,10 +10,10 @@ ghost use Rattle.lines.specs.Line.{following, spaced, lineText, Lined};
 ghost use Rattle.lines.specs.Writing.{Written, reportedOf};
 use rdap::Answer;
 
-// Every line fits into so many bytes: 4 + 4,096 numbers of at most 10 digits, a space or a line feed after each.
+// Bytes that every line fits into.
 pub const ROOM: usize = 45100;
 
-// Bytes.
+// The bytes of a slice.
 fn put_bytes(s: &[u8], out: &mut [u8])
     requires { ⌜ length (now s) ≤ length (now out) ⌝ }
     ensures { λ _. ⌜ now (out .exit) ≡ now (s .entry) ++ drop (length (now (s .entry))) (now (out .entry)) ⌝ }
@@ -37,7 +37,7 @@ fn put_number(n: u32, out: &mut [u8]) -> usize
 // A space and a number.
 fn put_next(n: u32, out: &mut [u8]) -> usize
     requires { ⌜ 11 ≤ length (now out) ⌝ }
-    ensures { λ r. ⌜ Written (32 ∷ decimalText n) (now (out .entry)) (now (out .exit)) r × (r ≤ 11) ⌝ }
+    ensures { λ r. ⌜ Written (following (n ∷ [])) (now (out .entry)) (now (out .exit)) r × (r ≤ 11) ⌝ }
 {
     out[0] = b' ';
     1 + put_number(n, &mut out[1..])

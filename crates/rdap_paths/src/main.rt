@@ -8,7 +8,7 @@ ghost use Prim.Native.Nat.{_+_, _≤_, _<_};
 ghost use mathlib.Core.List.{_++_};
 ghost use lib.ListN.{length, take};
 ghost use Rattle.rdap.specs.Calls.{answerOf};
-ghost use Rattle.lines.specs.Line.{lineText};
+ghost use Rattle.lines.specs.Line.{lineText, room};
 ghost use Rattle.lines.specs.Writing.{Written};
 use libc::STDERR_FILENO;
 use libc::STDOUT_FILENO;
@@ -40,8 +40,8 @@ fn make_room(out: &[u8; 77868], at: usize) -> usize
 }
 
 // Answers a path, and puts its line there. Gives where the line ends.
-fn put_line(path: &[u8], image: &[u8], list: &mut [u32; 4096], out: &mut [u8], at: usize) -> usize
-    requires { ⌜ at + 45100 ≤ length (now out) ⌝ }
+fn put_answer(path: &[u8], image: &[u8], list: &mut [u32; 4096], out: &mut [u8], at: usize) -> usize
+    requires { ⌜ at + room ≤ length (now out) ⌝ }
     ensures { λ r. ⌜ Written (take at (now (out .entry)) ++ lineText (answerOf (now (path .entry)) (now (image .entry)) 4096)) (now (out .entry)) (now (out .exit)) r ⌝ }
 {
     at + lines::put_answer(path, image, list, &mut out[at..])
@@ -73,7 +73,7 @@ fn end_line(
     let len = kept.line;
     let mut at = make_room(out, kept.out);
     if len <= line.len() {
-        at = put_line(&line[..len], image, list, out, at);
+        at = put_answer(&line[..len], image, list, out, at);
     }
     Kept { line: 0, out: at }
 }

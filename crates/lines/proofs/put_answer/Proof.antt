@@ -12,18 +12,20 @@ use Rattle.lines.proofs.put_answer.Tie as tie
 answer-requires : tie.Need-answer-requires
 answer-requires c κs = search needs
 
+abbrev start : tie.After-answer → tie.Start
+start c = c .before .before .before .before .before
+
 -- the list has 4,096 places
 answered :
     (c : tie.After-answer)
-    → Answered (answerOf (c .before .before .before .before .before .args .path .now) (c .before .before .before .before .before .args .image .now) 4096)
-    (c .answer .result) (c .before .before .before .before .before .args .list .now) (c .answer .last .1 .1 .0)
+    → Answered (answerOf (start c .args .path .now) (start c .args .image .now) 4096) (c .answer .result) (start c .args .list .now) (c .answer .last .1 .1 .0)
 answered c = rw (c .before .answer-arg .given .0 .1) at (c .answer .ensures)
 
-consistent : (c : tie.After-answer) → Consistent 4096 (answerOf (c .before .before .before .before .before .args .path .now) (c .before .before .before .before .before .args .image .now) 4096)
-consistent c = replies .first (c .before .before .before .before .before .args .path .now) (c .before .before .before .before .before .args .image .now) 4096
+consistent : (c : tie.After-answer) → Consistent 4096 (answerOf (start c .args .path .now) (start c .args .image .now) 4096)
+consistent c = replies .first (start c .args .path .now) (start c .args .image .now) 4096
 
 returns : tie.Need-returns
-returns c = no-room (answered (c .before) .list) (c .if1 .taken)
+returns c = no-room (answered (c .before) .list) (omega arith)
 
 reported-requires : tie.Need-reported-requires
 reported-requires c κs = search needs
@@ -45,7 +47,7 @@ returns-2 : tie.Need-returns-2
 returns-2 c =
     let at-answer = c .before .before .before .before .before .before .before .before in
     let e = c .before .before .before .before .before .before .reported .ensures in
-    line-put (answered at-answer .list) (omega arith) (rw (e, reported-are (consistent at-answer) (answered at-answer)) at (c .before .before .put-line .ensures))
+    line-put (omega arith) (answered at-answer .list) (rw (e, reported-are (consistent at-answer) (answered at-answer)) at (c .before .before .put-line .ensures))
 
 pub put-answer-spec : {M : Type 1} → statement M
 put-answer-spec =

@@ -8,11 +8,11 @@ use Rattle.rdap_paths.proofs.end_line.Tie as tie
 make-room-requires : tie.Need-make-room-requires
 make-room-requires c κs = search needs
 
-slice-aggregate-put-line : tie.Need-slice-aggregate-put-line
-slice-aggregate-put-line c = sym (length-take-le _ _ (c .before .if1 .taken))
+slice-aggregate-put-answer : tie.Need-slice-aggregate-put-answer
+slice-aggregate-put-answer c = sym (length-take-le _ _ (c .before .if1 .taken))
 
-put-line-requires : tie.Need-put-line-requires
-put-line-requires c κs = search needs
+put-answer-requires : tie.Need-put-answer-requires
+put-answer-requires c κs = search needs
 
 returns : tie.Need-returns
 returns c = search needs
@@ -23,4 +23,4 @@ returns-2 c = search needs
 pub end-line-spec : {M : Type 1} → statement M
 end-line-spec =
     tie.close
-    (tie.spec make-room-requires slice-aggregate-put-line put-line-requires returns returns-2)
+    (tie.spec make-room-requires slice-aggregate-put-answer put-answer-requires returns returns-2)

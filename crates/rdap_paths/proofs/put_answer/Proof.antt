@@ -2,8 +2,8 @@
 use native.Mathlib.Omega.{arith}
 use Rattle.lines.proofs.Lines.{line-fits, line-at}
 use borrow.Author.Needs.{needs}
-use Rattle.rdap_paths.proofs.put_line.Statement.{statement}
-use Rattle.rdap_paths.proofs.put_line.Tie as tie
+use Rattle.rdap_paths.proofs.put_answer.Statement.{statement}
+use Rattle.rdap_paths.proofs.put_answer.Tie as tie
 
 sub-put-answer : tie.Need-sub-put-answer
 sub-put-answer c = search needs
@@ -31,8 +31,8 @@ returns c =
     let start = c .before .before .before .before .before .before .before .before in
     line-at (start .args .out .now) (start .args .at) (c .before .before .put-answer .ensures) (start .pre)
 
-pub put-line-spec : {M : Type 1} → statement M
-put-line-spec =
+pub put-answer-spec : {M : Type 1} → statement M
+put-answer-spec =
     tie.close
     (tie.spec
     sub-put-answer
