@@ -1,8 +1,8 @@
 -- The low bits of a number of bytes, one byte above those that are known: which are zero, and the number with them set.
-use mathlib.Core.Path.{_≡_, refl, sym, _∙_, ap}
+use mathlib.Core.Path.{_≡_, sym, _∙_, ap}
 use mathlib.Core.Bool.{true, false}
-use mathlib.Core.List.{List, [], _∷_, _++_}
-use Prim.Native.Nat.{ℕ, zero, suc, _+_, _-_, _*_, _^_, _%_, _/_, _<_, _≤_, min, zero-le, suc-le-suc}
+use mathlib.Core.List.{List, _∷_, _++_}
+use Prim.Native.Nat.{ℕ, suc, _+_, _-_, _*_, _^_, _%_, _/_, _<_, _≤_, min}
 use native.Mathlib.Nat.{mod-le, mul-le-mul-right}
 use native.Mathlib.Omega.{arith}
 use borrow.Author.Tests.{eq-eqb, ne-eqb}
@@ -13,34 +13,11 @@ use Rattle.address.specs.Lists.{found}
 use Rattle.address.specs.Number.{value, valueFrom, Bytes}
 use Rattle.address.specs.Prefix.{prefixRange}
 use Rattle.address.specs.Ranges.{Range}
-
-eight-more : (n : ℕ) → 2 ^ (8 * suc n) ≡ 256 * 2 ^ (8 * n)
-eight-more n = let e : 8 * suc n ≡ 8 + 8 * n = omega arith in rw (e, pow-add 2 8 (8 * n))
-
--- the number of two lists of digits, one after the other
-pub value-append : (n : ℕ) (s t : List ℕ) → valueFrom n (s ++ t) ≡ valueFrom (valueFrom n s) t
-unfolding valueFrom
-value-append n [] t = refl
-value-append n (b ∷ s) t = value-append (n * 256 + b) s t
-
--- what stands before the digits of s is multiplied by 256 for each of them
-pub value-after : (n : ℕ) (s : List ℕ) → valueFrom n s ≡ n * 2 ^ (8 * length s) + value s
-unfolding valueFrom value
-value-after n [] = omega arith
-value-after n (b ∷ s) = rw (value-after (n * 256 + b) s, value-after (0 * 256 + b) s, eight-more (length s)) (omega arith)
-
-pub value-below : (s : List ℕ) → Bytes s → value s < 2 ^ (8 * length s)
-unfolding valueFrom value
-value-below [] d = omega arith
-value-below (b ∷ s) d =
-    let h : b < 256 = d 0 (suc-le-suc zero-le) in
-    let g : b ≤ 255 = omega arith in
-    let k : value s < 2 ^ (8 * length s) = value-below s (λ i l. d (suc i) (suc-le-suc l)) in
-    rw (value-after (0 + b) s, eight-more (length s)) (omega (arith, mul-le-mul-right (2 ^ (8 * length s)) g))
+use Rattle.address.proofs.Digits.{append-from, value-after, value-below}
 
 value-around : (s : List ℕ) (b : ℕ) (t : List ℕ) → value (s ++ b ∷ t) ≡ (value s * 256 + b) * 2 ^ (8 * length t) + value t
 unfolding valueFrom value
-value-around s b t = value-append 0 s (b ∷ t) ∙ value-after (valueFrom 0 s * 256 + b) t
+value-around s b t = append-from 0 s (b ∷ t) ∙ value-after (value s * 256 + b) t
 
 module _ (s : List ℕ) (i done : ℕ) (h : i < length s) (e : done ≡ 8 * (length s - suc i)) where
   below : 8 * length (drop (suc i) s) ≡ done

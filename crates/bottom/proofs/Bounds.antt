@@ -1,12 +1,18 @@
 -- The tests of the walk over a block's children, by comparisons of two numbers.
-use Prim.Native.Nat.{ℕ, suc, _+_, _-_, _*_, _≤_, _<_, max, min}
-use mathlib.Core.Bool.{Bool, true, false, _&&_}
+use Prim.Native.Nat.{ℕ, suc, _+_, _*_, _≤_, _<_, max, min}
+use mathlib.Core.Bool.{Bool, true, false, not, _&&_}
 use mathlib.Core.Path.{_≡_, refl, sym, _∙_}
+use mathlib.Core.List.{[], _∷_}
+use native.Mathlib.Nat.{mul-le-mul-right}
 use native.Mathlib.Omega.{arith}
 use borrow.Author.Tests.{lt-ltb, le-ltb, le-leb, lt-leb, leb-true, leb-false, ltb-true, ltb-false}
-use lib.Arith.{lt-of-le-ne}
 use lib.Dec.{leb, ltb}
+use Rattle.address.specs.Number.{valueFrom}
 use Rattle.address.specs.Ranges.{Range, overlaps}
+use Rattle.address.specs.Words.{numberOf}
+use Rattle.address.specs.declared.Words.{Words}
+use Rattle.address.proofs.Covering.{not-leb}
+use Rattle.address.proofs.Pairs.{pair-is}
 use Rattle.bottom.specs.Links.{freeFrom}
 
 module _ (a b : Range) {u : Bool} (e : u ≡ leb (a .first) (b .last)) where
@@ -40,6 +46,7 @@ unshared a b e p q = go (leb (a .first) (b .last)) (leb (b .first) (a .last)) re
 -- where a child begins, against what is free: f and r are the firsts of the range and the block, k the last of the child before, c this one's first
 module _ (f r k c : ℕ) (any : Bool) {u : Bool} (e : u ≡ leb c f) where
   pub early : u ≡ true → false ≡ ltb (freeFrom (max f r) any k) c
+  unfolding freeFrom
   early h = let m = leb-true c f (sym e ∙ h) in go any m
     where
       go : (t : Bool) → c ≤ f → false ≡ ltb (freeFrom (max f r) t k) c
@@ -48,6 +55,7 @@ module _ (f r k c : ℕ) (any : Bool) {u : Bool} (e : u ≡ leb c f) where
 
   module _ (h : u ≡ false) {v : Bool} (g : v ≡ leb c r) where
     pub early-block : v ≡ true → false ≡ ltb (freeFrom (max f r) any k) c
+    unfolding freeFrom
     early-block i = let m = leb-true c r (sym g ∙ i) in go any m
       where
         go : (t : Bool) → c ≤ r → false ≡ ltb (freeFrom (max f r) t k) c
@@ -56,12 +64,14 @@ module _ (f r k c : ℕ) (any : Bool) {u : Bool} (e : u ≡ leb c f) where
 
     module _ (i : v ≡ false) where
       pub later-first : any ≡ false → true ≡ ltb (freeFrom (max f r) any k) c
+      unfolding freeFrom
       later-first z =
           let m = leb-false c f (sym e ∙ h) in
           let o = leb-false c r (sym g ∙ i) in
           rw z (sym (lt-ltb (max f r) c (omega arith)))
 
       pub later-next : any ≡ true → {w : Bool} → w ≡ ltb (suc k) c → w ≡ ltb (freeFrom (max f r) any k) c
+      unfolding freeFrom
       later-next z {w} y = rw z (go w y)
         where
           go : (t : Bool) → t ≡ ltb (suc k) c → t ≡ ltb (max (max f r) (suc k)) c
@@ -87,39 +97,23 @@ module _ (l r c : ℕ) {u : Bool} (e : u ≡ leb l c) where
           let o = leb-false r c (sym y) in
           sym (lt-leb (min l r) c (omega arith))
 
--- an address between two, a and b, of 16 bytes each: by their high and low words
-module _ (h l g m : ℕ) (kl : l < 18446744073709551616) (km : m < 18446744073709551616) where
-  abbrev a : ℕ
-  a = h * 18446744073709551616 + l
+-- an address between two: y is above the number after x, which is made of its words; last is one less than their base
+module _ (last : ℕ) where
+  low-next : (h l : ℕ) → valueFrom (suc last) 0 (h ∷ (l + 1) ∷ []) ≡ suc (valueFrom (suc last) 0 (h ∷ l ∷ []))
+  low-next h l = rw (pair-is (suc last) h (l + 1), pair-is (suc last) h l) (omega arith)
 
-  abbrev b : ℕ
-  b = g * 18446744073709551616 + m
+  high-next : (h l : ℕ) → l ≡ last → valueFrom (suc last) 0 ((h + 1) ∷ 0 ∷ []) ≡ suc (valueFrom (suc last) 0 (h ∷ l ∷ []))
+  high-next h l e = rw (pair-is (suc last) (h + 1) 0, pair-is (suc last) h l, e) (omega arith)
 
-  pub higher : g < h → false ≡ ltb (suc a) b
-  higher x = sym (le-ltb (suc a) b (omega arith))
+  pub apart-none : (h l g m : ℕ) → h ≡ last → l ≡ last → g ≤ last → m ≤ last
+      → false ≡ ltb (suc (valueFrom (suc last) 0 (h ∷ l ∷ []))) (valueFrom (suc last) 0 (g ∷ m ∷ []))
+  apart-none h l g m e f p q =
+      rw (pair-is (suc last) h l, pair-is (suc last) g m, e, f)
+      (sym (le-ltb (suc (last * suc last + last)) (g * suc last + m) (omega (arith, mul-le-mul-right (suc last) p))))
 
-  pub same-close : h ≡ g → m ≤ l → false ≡ ltb (suc a) b
-  same-close x y = sym (le-ltb (suc a) b (omega arith))
+module _ (x y : Words) {v : Bool} where
+  pub apart-low : v ≡ leb (numberOf y) (numberOf (record { high = x .high; low = x .low + 1 })) → not v ≡ ltb (suc (numberOf x)) (numberOf y)
+  apart-low g = rw (← low-next 18446744073709551615 (x .high) (x .low)) (not-leb (numberOf y) (numberOf (record { high = x .high; low = x .low + 1 })) g)
 
-  pub same-high : h ≡ g → l < m → ltb 1 (m - l) ≡ ltb (suc a) b
-  same-high x y = go (ltb 1 (m - l)) refl
-    where
-      go : (t : Bool) → ltb 1 (m - l) ≡ t → ltb 1 (m - l) ≡ ltb (suc a) b
-      go true z = let w = ltb-true 1 (m - l) z in rw (z, lt-ltb (suc a) b (omega arith)) refl
-      go false z = let w = ltb-false 1 (m - l) z in rw (z, le-ltb (suc a) b (omega arith)) refl
-
-  pub far : h ≤ g → 1 < g - h → true ≡ ltb (suc a) b
-  far x y = sym (lt-ltb (suc a) b (omega arith))
-
-  pub into-next : h < g → 0 < m → true ≡ ltb (suc a) b
-  into-next x y = sym (lt-ltb (suc a) b (omega arith))
-
-  pub at-next : h < g → g - h ≤ 1 → m ≤ 0 → ltb l 18446744073709551615 ≡ ltb (suc a) b
-  at-next x y o = go (ltb l 18446744073709551615) refl
-    where
-      go : (t : Bool) → ltb l 18446744073709551615 ≡ t → ltb l 18446744073709551615 ≡ ltb (suc a) b
-      go true z = let w = ltb-true l 18446744073709551615 z in rw (z, lt-ltb (suc a) b (omega arith)) refl
-      go false z = let w = ltb-false l 18446744073709551615 z in rw (z, le-ltb (suc a) b (omega arith)) refl
-
-pub below-of : (h g : ℕ) → h ≤ g → (h ≡ g → ⊥) → h < g
-below-of h g x n = lt-of-le-ne x n
+  pub apart-high : x .low ≡ 18446744073709551615 → v ≡ leb (numberOf y) (numberOf (record { high = x .high + 1; low = 0 })) → not v ≡ ltb (suc (numberOf x)) (numberOf y)
+  apart-high e g = rw (← high-next 18446744073709551615 (x .high) (x .low) e) (not-leb (numberOf y) (numberOf (record { high = x .high + 1; low = 0 })) g)

@@ -8,10 +8,12 @@ use native.Mathlib.Nat.{add-zero}
 use lib.ListN.{length, drop, getD, set, length-drop}
 use lib.Seq.{drop-cons, getD-set-same, getD-set-other}
 use Rattle.address.specs.Positions.{rangeIn}
+use Rattle.address.specs.declared.Range.{Range}
+use Rattle.records.specs.Record.{widthOf}
 use Rattle.image.specs.declared.Run.{Run}
 use Rattle.blocks.specs.Blocks.{Block}
 use Rattle.scans.specs.Standing.{blocksIn, Asked}
-use Rattle.scans.proofs.Walks.{blocksLeft, run-start, run-end, within, comparable, next-left, asked-accepted, asked-few}
+use Rattle.scans.proofs.Walks.{blocksLeft, run-start, run-end, within, Here, comparable, next-left, asked-accepted, asked-few}
 use Rattle.bottom.specs.Links.{absent, nth, Reachable, Started, Gathered, Numbered}
 
 -- one more start, stored at n
@@ -24,13 +26,16 @@ start-more places starts from n v h e inv k p = go (decLt k n)
     go (yes b) = let o : k ≡ n → ⊥ = λ z. omega arith in getD-set-other starts n k v 0 o ∙ inv k b
     go (no b) = let z : k ≡ n = omega arith in rw z (getD-set-same starts n v 0 h ∙ e)
 
-module _ {s places : List ℕ} {blocks : Run} {first last : List ℕ} (q : Asked s places blocks first last) where
+module _ {s places : List ℕ} {blocks : Run} {range : Range} (q : Asked s places blocks range) where
   pub reachable : Reachable places blocks
   reachable = record { forward = q .selected .run-of .forward; few = asked-few q; low = λ i h k. within q h k .1 }
 
+  here : {i at : ℕ} → blocks .from ≤ i → i < blocks .until → at ≡ getD places i 0 + 6 → Here s places blocks range i at (widthOf (blocks .first))
+  here low high e = record { asked = q; low = low; high = high; start = e; wide = refl }
+
   -- the block that is record `from + k`
   found : ℕ → Block
-  found k = record { number = blocks .from + k; range = rangeIn s (getD places (blocks .from + k) 0 + 6) (length first) }
+  found k = record { number = blocks .from + k; range = rangeIn s (getD places (blocks .from + k) 0 + 6) (widthOf (blocks .first)) }
 
   -- after k blocks
   abbrev Passed : ℕ → Type 0
@@ -39,7 +44,7 @@ module _ {s places : List ℕ} {blocks : Run} {first last : List ℕ} (q : Asked
   module _ (k : ℕ) (h : blocks .from + k < blocks .until) (p : Passed k) where
     next : drop k (blocksIn s (blocks .first)) ≡ found k ∷ blocksLeft s (blocks .first) (blocks .from + k + 1)
     unfolding found
-    next = p .1 ∙ next-left q (omega arith) h refl
+    next = p .1 ∙ next-left (here (omega arith) h refl)
 
     more : k < length (blocksIn s (blocks .first))
     more = let e = ap length next in omega (arith, length-drop k (blocksIn s (blocks .first)))
@@ -70,8 +75,8 @@ module _ {s places : List ℕ} {blocks : Run} {first last : List ℕ} (q : Asked
           nested = asked-accepted q;
           counted = omega (arith, p .0, length-drop n (blocksIn s (blocks .first)));
           few = omega (arith, asked-few q);
-          ranges = λ k h. rw (g .start k h, ← q .first-wide) (ap (λ (b : Block). b .range) (nth-found k (omega arith)));
-          fits = λ k h. rw (← q .first-wide) (comparable q {i = blocks .from + k} (omega arith) (omega arith) (g .start k h) .fits);
+          ranges = λ k h. rw (g .start k h) (ap (λ (b : Block). b .range) (nth-found k (omega arith)));
+          fits = λ k h. comparable (here {i = blocks .from + k} (omega arith) (omega arith) (g .start k h)) .fits;
         }
 
     pub numbered : Numbered s (blocks .first) (blocks .from) n

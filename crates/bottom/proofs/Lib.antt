@@ -1,6 +1,5 @@
 pub mod Indices
 pub mod Gaps
-pub mod Digits
 pub mod Bounds
 pub mod Hops
 pub mod Tests

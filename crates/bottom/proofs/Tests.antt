@@ -25,8 +25,8 @@ module _ {s : List ℕ} {family : ℕ} {starts : List ℕ} {n : ℕ} (g : Gather
     pub one-left : drop i (blocksIn s family) ≡ nth (blocksIn s family) i ∷ drop (i + 1) (blocksIn s family)
     one-left = rw (add-one i) (drop-cons (blocksIn s family) i absent (omega (arith, g .counted)))
 
-    pub comparable-at : {first last : List ℕ} → length first ≡ widthOf family → length last ≡ widthOf family → Comparable s (getD starts i 0) first last
-    comparable-at e f = record { wide = rw e (wide-family family); same = f ∙ sym e; fits = rw e (g .fits i h) }
+    pub comparable-at : {w : ℕ} → w ≡ widthOf family → Comparable s (getD starts i 0) w
+    comparable-at e = record { wide = rw e (wide-family family); fits = rw e (g .fits i h) }
 
     module _ (f : Block → Bool) {v : Bool} (t : v ≡ f (nth (blocksIn s family) i)) where
       pub select-one : v ≡ true → select f (drop i (blocksIn s family)) ≡ nth (blocksIn s family) i .number ∷ select f (drop (i + 1) (blocksIn s family))

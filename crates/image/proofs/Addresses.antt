@@ -7,7 +7,7 @@ use native.Mathlib.Omega.{arith}
 use lib.Dec.{leb, eqb}
 use Rattle.address.specs.Ranges.{Range, sortsAfter}
 use Rattle.address.specs.Positions.{Wide}
-use Rattle.address.proofs.Positions.{not-leb}
+use Rattle.address.proofs.Covering.{not-leb}
 use Rattle.records.specs.Record.{isBlock, widthOf}
 
 pub low-family : (family : ℕ) → isBlock family ≡ true → family ≤ 18

@@ -1,5 +1,6 @@
 -- Laws of bytes put in front of others, and of the loop over the octets of an IPv4 address: a piece is no octet, is the last one, or goes before a dot.
 use Prim.Native.Nat.{ℕ, _+_, _≤_, _<_}
+use Prim.Native.Char.{code}
 use mathlib.Core.Path.{_≡_, refl, sym, ap, _∙_}
 use mathlib.Core.List.{List, [], _∷_, _++_, append-assoc, append-nil}
 use mathlib.Core.Bool.{Bool, true, false, cond}
@@ -52,17 +53,17 @@ octets-over a (Value v) none h = refl
 octets-over a (Value v) (some b) h = rw (ne-eqb (length (a ++ v ∷ b)) 4 (λ q. omega (arith, length-append a (v ∷ b))))
 
 -- The loop of the IPv4 reader: the n bytes at the front of bytes are read from s, and t is the rest of s.
-module _ (s t bytes : List ℕ) (n : ℕ) (inv : prefixed (take n bytes) (octets (split 46 t)) ≡ octets (split 46 s)) (four : length bytes ≡ 4) where
+module _ (s t bytes : List ℕ) (n : ℕ) (inv : prefixed (take n bytes) (octets (split (code ".") t)) ≡ octets (split (code ".") s)) (four : length bytes ≡ 4) where
   -- after four octets something is left
   pub ipv4-over : n ≡ 4 → found false [] ≡ ipv4 s
   unfolding found ipv4 octets
   ipv4-over h =
-      let (p, ps, e) = split-cons 46 t in
+      let (p, ps, e) = split-cons (code ".") t in
       let l : length (take n bytes) ≡ 4 = length-take-le n bytes (omega arith) ∙ h in
       sym (octets-over (take n bytes) (decimal 255 p) (octets ps) l) ∙ ap (exactly 4) (ap (λ (x : List (List ℕ)). prefixed (take n bytes) (octets x)) (sym e) ∙ inv)
 
-  module _ (j : ℕ) (first : FirstPiece 46 t j) where
-    bad-octet : Dec (length t ≤ j) → decimal 255 (take j t) ≡ Malformed → octets (split 46 t) ≡ none
+  module _ (j : ℕ) (first : FirstPiece (code ".") t j) where
+    bad-octet : Dec (length t ≤ j) → decimal 255 (take j t) ≡ Malformed → octets (split (code ".") t) ≡ none
     unfolding octets joined oneByte
     bad-octet (yes h) e = let e′ : decimal 255 t ≡ Malformed = rw (take-all j t h) at e in rw (first .last h, e′)
     bad-octet (no h) e = rw (first .more (omega arith), e)
@@ -73,7 +74,7 @@ module _ (s t bytes : List ℕ) (n : ℕ) (inv : prefixed (take n bytes) (octets
     ipv4-bad e = ap (exactly 4) (ap (prefixed (take n bytes)) (sym (bad-octet (decLe (length t) j) e)) ∙ inv)
 
     module _ (v : ℕ) (e : decimal 255 (take j t) ≡ Value v) (room : n < 4) where
-      pushed : (o : Option (List ℕ)) → octets (split 46 t) ≡ prefixed (v ∷ []) o → prefixed (take (n + 1) (set bytes n v)) o ≡ octets (split 46 s)
+      pushed : (o : Option (List ℕ)) → octets (split (code ".") t) ≡ prefixed (v ∷ []) o → prefixed (take (n + 1) (set bytes n v)) o ≡ octets (split (code ".") s)
       pushed o q = sym (push-prefixed v n bytes o (omega arith)) ∙ ap (prefixed (take n bytes)) (sym q) ∙ inv
 
       -- the last piece
@@ -81,11 +82,11 @@ module _ (s t bytes : List ℕ) (n : ℕ) (inv : prefixed (take n bytes) (octets
       unfolding ipv4 octets joined oneByte prefixed
       ipv4-done h =
           let e′ : decimal 255 t ≡ Value v = rw (take-all j t h) at e in
-          let q : octets (split 46 t) ≡ prefixed (v ∷ []) (some []) = rw (first .last h, e′) in
+          let q : octets (split (code ".") t) ≡ prefixed (v ∷ []) (some []) = rw (first .last h, e′) in
           found-exactly 4 (n + 1) (set bytes n v) (length-set bytes n v ∙ four) (omega arith)
           ∙ ap (exactly 4) (ap some (sym (append-nil (take (n + 1) (set bytes n v)))) ∙ pushed (some []) q)
 
       -- a piece with a dot after it
-      pub ipv4-next : j < length t → prefixed (take (n + 1) (set bytes n v)) (octets (split 46 (drop (j + 1) t))) ≡ octets (split 46 s)
+      pub ipv4-next : j < length t → prefixed (take (n + 1) (set bytes n v)) (octets (split (code ".") (drop (j + 1) t))) ≡ octets (split (code ".") s)
       unfolding octets joined oneByte
-      ipv4-next h = pushed (octets (split 46 (drop (j + 1) t))) (rw (first .more h, e))
+      ipv4-next h = pushed (octets (split (code ".") (drop (j + 1) t))) (rw (first .more h, e))

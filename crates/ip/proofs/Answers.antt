@@ -1,6 +1,7 @@
 -- Laws of the answer of the address reader: what it is in each of its three cases, and what a caller learns from it.
 -- An address that was read has four bytes or sixteen; the zeros before the four do not change its number.
 use Prim.Native.Nat.{ℕ, _+_, _-_}
+use Prim.Native.Char.{code}
 use mathlib.Core.Path.{_≡_, refl, sym, ap, subst, _∙_}
 use mathlib.Core.List.{List, _++_}
 use mathlib.Core.Bool.{Bool, true, false, cond}
@@ -72,7 +73,7 @@ ipv6-wide : (s a : List ℕ) → ipv6 s ≡ some a → length a ≡ 16
 unfolding ipv6
 ipv6-wide s a e =
     cond-wide (ltb (elision s) (length s)) (elided (side false (take (elision s) s)) (side true (drop (elision s + 2) s)))
-    (exactly 16 (groups true (split 58 s))) a 16 (elided-wide _ _ a) (exactly-wide 16 _ a) e
+    (exactly 16 (groups true (split (code ":") s))) a 16 (elided-wide _ _ a) (exactly-wide 16 _ a) e
 
 either-wide : (o p : Option (List ℕ)) (a : List ℕ) → (o ≡ some a → length a ≡ 4) → (p ≡ some a → length a ≡ 16)
     → orElse o p ≡ some a → (length a ≡ 4 → ⊥) → length a ≡ 16
@@ -83,7 +84,7 @@ either-wide (some x) p a f g e h = absurd (h (f e))
 -- an address that has not four bytes has sixteen
 pub address-wide : (s a : List ℕ) → addressOf s ≡ some a → (length a ≡ 4 → ⊥) → length a ≡ 16
 unfolding addressOf ipv4
-address-wide s a e h = either-wide (ipv4 s) (ipv6 s) a (exactly-wide 4 (octets (split 46 s)) a) (ipv6-wide s a) e h
+address-wide s a e h = either-wide (ipv4 s) (ipv6 s) a (exactly-wide 4 (octets (split (code ".") s)) a) (ipv6-wide s a) e h
 
 -- ---- what a caller learns
 

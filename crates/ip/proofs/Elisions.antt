@@ -1,5 +1,6 @@
 -- Laws of the place of "::", for a loop that has come to place i: it stands here, further on, or nowhere; and it ends within the text.
 use Prim.Native.Nat.{ℕ, suc, _+_, _≤_, _<_}
+use Prim.Native.Char.{code}
 use mathlib.Core.Path.{_≡_, refl}
 use mathlib.Core.List.{List, [], _∷_}
 use mathlib.Core.Bool.{Bool, true, false, cond, _&&_, false≢true}
@@ -23,7 +24,7 @@ elision-long (c ∷ []) e = absurd (false≢true e)
 elision-long (c ∷ d ∷ s) e = omega arith
 
 module _ (s : List ℕ) (i : ℕ) where
-  pub elision-two : i + 1 < length s → elisionFirst (drop i s) ≡ (eqb (getD s i 0) 58 && eqb (getD s (i + 1) 0) 58)
+  pub elision-two : i + 1 < length s → elisionFirst (drop i s) ≡ (eqb (getD s i 0) (code ":") && eqb (getD s (i + 1) 0) (code ":"))
   unfolding elisionFirst
   elision-two h =
       let h₀ : i < length s = omega arith in

@@ -1,5 +1,6 @@
 -- Laws of the groups of an IPv6 address and of the sides of "::": the last group, the loop over the groups, and zeros put between the sides.
 use Prim.Native.Nat.{ℕ, zero, suc, _+_, _-_, _≤_, _<_, _/_, _%_}
+use Prim.Native.Char.{code}
 use mathlib.Core.Path.{_≡_, refl, sym, ap, _∙_}
 use mathlib.Core.List.{List, [], _∷_, _++_, append-nil}
 use mathlib.Core.Bool.{Bool, true, false}
@@ -89,35 +90,35 @@ module _ (t : List ℕ) where
 
 -- ---- the loop over the groups: the n bytes at the front of bytes are read from s, and t is the rest of s, whose first piece is j bytes long
 
-module _ (tail : Bool) (s t bytes : List ℕ) (n j : ℕ) (inv : prefixed (take n bytes) (groups tail (split 58 t)) ≡ groups tail (split 58 s))
-    (first : FirstPiece 58 t j) where
-  more : j < length t → groups tail (split 58 t) ≡ joined (group (take j t)) (groups tail (split 58 (drop (j + 1) t)))
+module _ (tail : Bool) (s t bytes : List ℕ) (n j : ℕ) (inv : prefixed (take n bytes) (groups tail (split (code ":") t)) ≡ groups tail (split (code ":") s))
+    (first : FirstPiece (code ":") t j) where
+  more : j < length t → groups tail (split (code ":") t) ≡ joined (group (take j t)) (groups tail (split (code ":") (drop (j + 1) t)))
   unfolding groups
-  more h = let (p, ps, e) = split-cons 58 (drop (j + 1) t) in rw (first .more h, e)
+  more h = let (p, ps, e) = split-cons (code ":") (drop (j + 1) t) in rw (first .more h, e)
 
-  pub groups-bad : j < length t → h16 (take j t) ≡ Malformed → upTo 16 (groups tail (split 58 s)) ≡ none
+  pub groups-bad : j < length t → h16 (take j t) ≡ Malformed → upTo 16 (groups tail (split (code ":") s)) ≡ none
   unfolding upTo prefixed joined
   groups-bad h e = rw (← inv, more h, group-none (take j t) e)
 
-  pub groups-end : length t ≤ j → prefixed (take n bytes) (lastGroup tail t) ≡ groups tail (split 58 s)
+  pub groups-end : length t ≤ j → prefixed (take n bytes) (lastGroup tail t) ≡ groups tail (split (code ":") s)
   unfolding groups
   groups-end h = ap (λ (x : List (List ℕ)). prefixed (take n bytes) (groups tail x)) (sym (first .last h)) ∙ inv
 
   module _ (h : j < length t) (v : ℕ) (e : h16 (take j t) ≡ Value v) where
-    more-bytes : groups tail (split 58 t) ≡ prefixed (v / 256 ∷ v % 256 ∷ []) (groups tail (split 58 (drop (j + 1) t)))
+    more-bytes : groups tail (split (code ":") t) ≡ prefixed (v / 256 ∷ v % 256 ∷ []) (groups tail (split (code ":") (drop (j + 1) t)))
     unfolding joined
     more-bytes = rw (more h, group-bytes (take j t) v e)
 
-    pub groups-over : length bytes ≡ 16 → 14 < n → n ≤ 16 → upTo 16 (groups tail (split 58 s)) ≡ none
+    pub groups-over : length bytes ≡ 16 → 14 < n → n ≤ 16 → upTo 16 (groups tail (split (code ":") s)) ≡ none
     groups-over sixteen k q =
         let l : length (take n bytes) ≡ n = length-take-le n bytes (omega arith) in
-        rw (← inv, more-bytes) (too-long (take n bytes) (v / 256 ∷ v % 256 ∷ []) (groups tail (split 58 (drop (j + 1) t))) (omega arith))
+        rw (← inv, more-bytes) (too-long (take n bytes) (v / 256 ∷ v % 256 ∷ []) (groups tail (split (code ":") (drop (j + 1) t))) (omega arith))
 
     pub groups-next : (r : List ℕ) → take (n + 2) r ≡ take n bytes ++ (v / 256 ∷ v % 256 ∷ [])
-        → prefixed (take (n + 2) r) (groups tail (split 58 (drop (j + 1) t))) ≡ groups tail (split 58 s)
+        → prefixed (take (n + 2) r) (groups tail (split (code ":") (drop (j + 1) t))) ≡ groups tail (split (code ":") s)
     groups-next r q =
         rw q
-        (sym (prefixed-twice (take n bytes) (v / 256 ∷ v % 256 ∷ []) (groups tail (split 58 (drop (j + 1) t)))) ∙ ap (prefixed (take n bytes)) (sym more-bytes) ∙ inv)
+        (sym (prefixed-twice (take n bytes) (v / 256 ∷ v % 256 ∷ []) (groups tail (split (code ":") (drop (j + 1) t)))) ∙ ap (prefixed (take n bytes)) (sym more-bytes) ∙ inv)
 
 -- ---- what an answer says
 
@@ -204,7 +205,7 @@ unfolding side
 side-empty tail [] e = refl
 side-empty tail (c ∷ s) e = let z : ⊥ = omega arith in absurd z
 
-pub side-groups : (tail : Bool) (s : List ℕ) → (length s ≡ 0 → ⊥) → side tail s ≡ groups tail (split 58 s)
+pub side-groups : (tail : Bool) (s : List ℕ) → (length s ≡ 0 → ⊥) → side tail s ≡ groups tail (split (code ":") s)
 unfolding side
 side-groups tail [] h = absurd (h refl)
 side-groups tail (c ∷ s) h = refl

@@ -1,5 +1,6 @@
 -- IPv4address and IPv6address of RFC 3986, section 3.2.2, as the bytes of the address, high byte first; none where the text is malformed.
 use Prim.Native.Nat.{ℕ, suc, _+_, _-_, _/_, _%_, _≤_}
+use Prim.Native.Char.{code}
 use mathlib.Core.Path.{_≡_}
 use mathlib.Core.List.{List, [], _∷_, _++_}
 use mathlib.Core.Bool.{Bool, true, false, cond, _&&_}
@@ -46,7 +47,7 @@ octets (p ∷ ps) = joined (oneByte (decimal 255 p)) (octets ps)
 
 -- four octets separated by dots
 unfoldable pub ipv4 : List ℕ → Option (List ℕ)
-ipv4 s = exactly 4 (octets (split 46 s))
+ipv4 s = exactly 4 (octets (split (code ".") s))
 
 -- one group of hex digits
 unfoldable pub group : List ℕ → Option (List ℕ)
@@ -70,7 +71,7 @@ groups tail (p ∷ q ∷ ps) = joined (group p) (groups tail (q ∷ ps))
 -- a side of "::": nothing, or groups
 unfoldable pub side : Bool → List ℕ → Option (List ℕ)
 side tail [] = some []
-side tail (c ∷ s) = groups tail (split 58 (c ∷ s))
+side tail (c ∷ s) = groups tail (split (code ":") (c ∷ s))
 
 -- both sides of "::", which stands for one or more groups of zeros
 unfoldable pub elided : Option (List ℕ) → Option (List ℕ) → Option (List ℕ)
@@ -83,7 +84,7 @@ elided none o = none
 unfoldable pub elisionFirst : List ℕ → Bool
 elisionFirst [] = false
 elisionFirst (c ∷ []) = false
-elisionFirst (c ∷ d ∷ s) = eqb c 58 && eqb d 58
+elisionFirst (c ∷ d ∷ s) = eqb c (code ":") && eqb d (code ":")
 
 -- where the first "::" stands; the length of s where there is none
 unfoldable pub elision : List ℕ → ℕ
@@ -95,7 +96,7 @@ unfoldable pub ipv6 : List ℕ → Option (List ℕ)
 ipv6 s =
     let at : ℕ = elision s in
     let short : Option (List ℕ) = elided (side false (take at s)) (side true (drop (at + 2) s)) in
-    let full : Option (List ℕ) = exactly 16 (groups true (split 58 s)) in
+    let full : Option (List ℕ) = exactly 16 (groups true (split (code ":") s)) in
     cond (ltb at (length s)) short full
 
 -- of either family; IPv4 text never names an IPv6 address

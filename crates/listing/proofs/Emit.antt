@@ -1,16 +1,10 @@
 -- Record numbers collected in an array: the first n are found, L is what is still to be found, L′ what is left after a turn.
 use Prim.Native.Nat.{ℕ, _+_, _<_}
-use mathlib.Core.Path.{_≡_, refl, _∙_}
-use mathlib.Core.List.{List, [], _∷_, _++_}
+use mathlib.Core.Path.{_≡_, _∙_}
+use mathlib.Core.List.{List, _∷_, _++_}
 use native.Mathlib.Numerals.{add-one}
-use native.Mathlib.Omega.{arith}
 use lib.ListN.{length, take, set}
 use lib.Seq.{take-suc-set, append-snoc}
-
--- found at place 0, in place of what was there
-pub only-one : (hits : List ℕ) (i : ℕ) → 0 < length hits → take 1 (set hits 0 i) ≡ i ∷ []
-only-one [] i h = absurd (omega (arith, h))
-only-one (x ∷ hits) i h = refl
 
 pub one-more : (hits : List ℕ) (n i : ℕ) {L L′ R : List ℕ} → L ≡ i ∷ L′ → n < length hits → take n hits ++ L ≡ R → take (n + 1) (set hits n i) ++ L′ ≡ R
 one-more hits n i {L′ = L′} e h inv =

@@ -16,13 +16,14 @@ pub fn report(hits: &[u32], list: &mut [u32]) -> Listed
 {
     let need = hits.len();
     let room = list.len();
-    if room < need {
-        return Listed::Full(need as u32);
-    }
+    let written = if room < need { 0 } else { need };
     let mut i: usize = 0;
-    while i < need {
+    while i < written {
         list[i] = hits[i];
         i += 1;
+    }
+    if room < need {
+        return Listed::Full(need as u32);
     }
     Listed::Done(need as u32)
 }

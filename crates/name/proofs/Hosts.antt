@@ -3,6 +3,7 @@ use mathlib.Core.Path.{_≡_, refl, sym, _∙_, ap}
 use mathlib.Core.Bool.{Bool, true, false, not, cond, _&&_}
 use mathlib.Core.List.{List, [], _∷_}
 use Prim.Native.Nat.{ℕ, zero, suc, _+_, _-_, _≤_, _<_, zero-le, suc-le-suc}
+use Prim.Native.Char.{code}
 use borrow.Author.Tests.{le-leb, eqb-true}
 use native.Mathlib.Omega.{arith}
 use native.Mathlib.Numerals.{add-one}
@@ -33,9 +34,9 @@ chain x (y ∷ ys) = mayFollow x y && chain y ys
 
 -- a label of k bytes so far that ends with x, which is a hyphen or not; or a dot before it
 data After (x k : ℕ) (h : Bool) : Type 0 where
-  letter : letterOrDigit x ≡ true → eqb x 0x2E ≡ false → eqb x 0x2D ≡ false → 1 ≤ k → h ≡ false → After x k h
-  hyphen : x ≡ 0x2D → 1 ≤ k → h ≡ true → After x k h
-  dot : x ≡ 0x2E → k ≡ 0 → h ≡ false → After x k h
+  letter : letterOrDigit x ≡ true → eqb x (code ".") ≡ false → eqb x (code "-") ≡ false → 1 ≤ k → h ≡ false → After x k h
+  hyphen : x ≡ code "-" → 1 ≤ k → h ≡ true → After x k h
+  dot : x ≡ code "." → k ≡ 0 → h ≡ false → After x k h
 
 module _ (x k : ℕ) (h : Bool) where
   labels-none : After x k h → k ≤ 63 → (within 1 63 k && not h) ≡ letterOrDigit x
@@ -45,25 +46,25 @@ module _ (x k : ℕ) (h : Bool) where
   labels-none (dot l p e) q = rw (p, l)
 
   module _ (y : ℕ) (bs : List ℕ) (a : After x k h) (q : k < 63) where
-    at-dot : eqb y 0x2E ≡ true → labelsFrom 0 false bs ≡ chain y bs → (within 1 63 k && not h && labelsFrom 0 false bs) ≡ (mayFollow x y && chain y bs)
+    at-dot : eqb y (code ".") ≡ true → labelsFrom 0 false bs ≡ chain y bs → (within 1 63 k && not h && labelsFrom 0 false bs) ≡ (mayFollow x y && chain y bs)
     unfolding mayFollow letterOrDigit
-    at-dot d i = go a (eqb-true y 0x2E d)
+    at-dot d i = go a (eqb-true y (code ".") d)
       where
-        go : After x k h → y ≡ 0x2E → (within 1 63 k && not h && labelsFrom 0 false bs) ≡ (mayFollow x y && chain y bs)
+        go : After x k h → y ≡ code "." → (within 1 63 k && not h && labelsFrom 0 false bs) ≡ (mayFollow x y && chain y bs)
         go (letter l d m p e) r = rw (le-leb 1 k p, le-leb k 63 (omega arith), e, i) (rw (r, d, m))
         go (hyphen l p e) r = rw (le-leb 1 k p, le-leb k 63 (omega arith), e, r, l)
         go (dot l p e) r = rw (p, r, l)
 
-    at-hyphen : eqb y 0x2D ≡ true → (1 ≤ k → labelsFrom (k + 1) true bs ≡ chain y bs) → (leb 1 k && labelsFrom (k + 1) true bs) ≡ (mayFollow x y && chain y bs)
+    at-hyphen : eqb y (code "-") ≡ true → (1 ≤ k → labelsFrom (k + 1) true bs ≡ chain y bs) → (leb 1 k && labelsFrom (k + 1) true bs) ≡ (mayFollow x y && chain y bs)
     unfolding mayFollow letterOrDigit
-    at-hyphen d i = go a (eqb-true y 0x2D d)
+    at-hyphen d i = go a (eqb-true y (code "-") d)
       where
-        go : After x k h → y ≡ 0x2D → (leb 1 k && labelsFrom (k + 1) true bs) ≡ (mayFollow x y && chain y bs)
+        go : After x k h → y ≡ code "-" → (leb 1 k && labelsFrom (k + 1) true bs) ≡ (mayFollow x y && chain y bs)
         go (letter l d m p e) r = rw (le-leb 1 k p, i p) (rw (r, d))
         go (hyphen l p e) r = rw (le-leb 1 k p, i p) (rw (r, l))
         go (dot l p e) r = rw (p, r, l)
 
-    at-other : (t : Bool) → letterOrDigit y ≡ t → eqb y 0x2E ≡ false → eqb y 0x2D ≡ false
+    at-other : (t : Bool) → letterOrDigit y ≡ t → eqb y (code ".") ≡ false → eqb y (code "-") ≡ false
         → (t ≡ true → labelsFrom (k + 1) false bs ≡ chain y bs)
         → (letterOrDigit y && labelsFrom (k + 1) false bs) ≡ (mayFollow x y && chain y bs)
     unfolding mayFollow
@@ -73,17 +74,17 @@ module _ (x k : ℕ) (h : Bool) where
 labels : (bs : List ℕ) (x k : ℕ) (h : Bool) → After x k h → k + length bs ≤ 63 → labelsFrom k h bs ≡ chain x bs
 unfolding labelsFrom chain
 labels [] x k h a q = labels-none x k h a (omega arith)
-labels (y ∷ ys) x k h a q = by-byte (eqb y 0x2E) (eqb y 0x2D) refl refl (labels ys y)
+labels (y ∷ ys) x k h a q = by-byte (eqb y (code ".")) (eqb y (code "-")) refl refl (labels ys y)
   where
-    by-byte : (d m : Bool) → eqb y 0x2E ≡ d → eqb y 0x2D ≡ m
+    by-byte : (d m : Bool) → eqb y (code ".") ≡ d → eqb y (code "-") ≡ m
         → ((k : ℕ) (h : Bool) → After y k h → k + length ys ≤ 63 → labelsFrom k h ys ≡ chain y ys)
         → cond d (within 1 63 k && not h && labelsFrom 0 false ys)
         (cond m (leb 1 k && labelsFrom (k + 1) true ys) (letterOrDigit y && labelsFrom (k + 1) false ys))
         ≡ (mayFollow x y && chain y ys)
     by-byte true m d e i =
-        at-dot x k h y ys a (omega arith) d (i 0 false (dot (eqb-true y 0x2E d) refl refl) (omega arith))
+        at-dot x k h y ys a (omega arith) d (i 0 false (dot (eqb-true y (code ".") d) refl refl) (omega arith))
     by-byte false true d e i =
-        at-hyphen x k h y ys a (omega arith) e (λ p. i (k + 1) true (hyphen (eqb-true y 0x2D e) (omega arith) refl) (omega arith))
+        at-hyphen x k h y ys a (omega arith) e (λ p. i (k + 1) true (hyphen (eqb-true y (code "-") e) (omega arith) refl) (omega arith))
     by-byte false false d e i =
         at-other x k h y ys a (omega arith) (letterOrDigit y) refl d e
         (λ t. i (k + 1) false (letter t d e (omega arith) refl) (omega arith))
@@ -91,13 +92,13 @@ labels (y ∷ ys) x k h a q = by-byte (eqb y 0x2E) (eqb y 0x2D) refl refl (label
 -- from the first byte on
 labels-first : (x : ℕ) (s : List ℕ) → length s < 63 → labelsFrom 0 false (x ∷ s) ≡ (letterOrDigit x && chain x s)
 unfolding labelsFrom letterOrDigit
-labels-first x s q = by-byte (eqb x 0x2E) (eqb x 0x2D) (letterOrDigit x) refl refl refl
+labels-first x s q = by-byte (eqb x (code ".")) (eqb x (code "-")) (letterOrDigit x) refl refl refl
   where
-    by-byte : (d m t : Bool) → eqb x 0x2E ≡ d → eqb x 0x2D ≡ m → letterOrDigit x ≡ t
+    by-byte : (d m t : Bool) → eqb x (code ".") ≡ d → eqb x (code "-") ≡ m → letterOrDigit x ≡ t
         → cond d (within 1 63 0 && not false && labelsFrom 0 false s) (cond m (leb 1 0 && labelsFrom 1 true s) (t && labelsFrom 1 false s))
         ≡ (t && chain x s)
-    by-byte true m t d e l = rw (sym l, eqb-true x 0x2E d)
-    by-byte false true t d e l = rw (sym l, eqb-true x 0x2D e)
+    by-byte true m t d e l = rw (sym l, eqb-true x (code ".") d)
+    by-byte false true t d e l = rw (sym l, eqb-true x (code "-") e)
     by-byte false false true d e l = labels s x 1 false (letter l d e (omega arith) refl) (omega arith)
     by-byte false false false d e l = refl
 

@@ -4,6 +4,7 @@ use mathlib.Core.Bool.{Bool, true, false, not, _&&_, _||_}
 use lib.Dec.{leb}
 use mathlib.Core.List.{List}
 use Prim.Native.Nat.{ℕ, suc, _+_, _≤_, _<_}
+use Prim.Native.Char.{code}
 use borrow.Author.Tests.{eq-eqb, ne-eqb, le-leb, lt-leb}
 use native.Mathlib.Omega.{arith}
 use lib.ListN.{length, getD, drop, drop-of-length-le}
@@ -18,17 +19,17 @@ or-false true = refl
 or-false false = refl
 
 module _ (b : ℕ) where
-  pub letter-high : 0x61 ≤ b → leb b 0x7A ≡ letterOrDigit b
+  pub letter-high : code "a" ≤ b → leb b (code "z") ≡ letterOrDigit b
   unfolding letterOrDigit
-  letter-high h = rw (le-leb 0x61 b h, le-leb 0x30 b (omega arith), lt-leb b 0x39 (omega arith)) (sym (or-false (leb b 0x7A)))
+  letter-high h = rw (le-leb (code "a") b h, le-leb (code "0") b (omega arith), lt-leb b (code "9") (omega arith)) (sym (or-false (leb b (code "z"))))
 
-  pub letter-digit : b < 0x61 → 0x30 ≤ b → leb b 0x39 ≡ letterOrDigit b
+  pub letter-digit : b < code "a" → code "0" ≤ b → leb b (code "9") ≡ letterOrDigit b
   unfolding letterOrDigit
-  letter-digit h k = rw (lt-leb 0x61 b h, le-leb 0x30 b k)
+  letter-digit h k = rw (lt-leb (code "a") b h, le-leb (code "0") b k)
 
-  pub letter-none : b < 0x61 → b < 0x30 → false ≡ letterOrDigit b
+  pub letter-none : b < code "a" → b < code "0" → false ≡ letterOrDigit b
   unfolding letterOrDigit
-  letter-none h k = rw (lt-leb 0x61 b h, lt-leb 0x30 b k)
+  letter-none h k = rw (lt-leb (code "a") b h, lt-leb (code "0") b k)
 
 -- what the byte at i makes of a label of k bytes, the last one a hyphen or not
 module _ (k : ℕ) (hyphen : Bool) (s : List ℕ) (i : ℕ) where
@@ -37,7 +38,7 @@ module _ (k : ℕ) (hyphen : Bool) (s : List ℕ) (i : ℕ) where
   labels-end h = rw (drop-of-length-le s h)
 
   module _ (l : i < length s) where
-    module _ (e : getD s i 0 ≡ 0x2E) where
+    module _ (e : getD s i 0 ≡ code ".") where
       pub dot-bad : (within 1 63 k && not hyphen) ≡ false → labelsFrom k hyphen (drop i s) ≡ false
       unfolding labelsFrom
       dot-bad p = rw (drop-cons s i 0, eq-eqb _ _ e, p)
@@ -46,8 +47,8 @@ module _ (k : ℕ) (hyphen : Bool) (s : List ℕ) (i : ℕ) where
       unfolding labelsFrom
       dot-go p = rw (drop-cons s i 0, eq-eqb _ _ e, p)
 
-    module _ (n : getD s i 0 ≡ 0x2E → ⊥) where
-      module _ (e : getD s i 0 ≡ 0x2D) where
+    module _ (n : getD s i 0 ≡ code "." → ⊥) where
+      module _ (e : getD s i 0 ≡ code "-") where
         pub hyphen-first : k < 1 → labelsFrom k hyphen (drop i s) ≡ false
         unfolding labelsFrom
         hyphen-first p = rw (drop-cons s i 0, ne-eqb _ _ n, eq-eqb _ _ e, lt-leb 1 k p)
@@ -56,7 +57,7 @@ module _ (k : ℕ) (hyphen : Bool) (s : List ℕ) (i : ℕ) where
         unfolding labelsFrom
         hyphen-go p = rw (drop-cons s i 0, ne-eqb _ _ n, eq-eqb _ _ e, le-leb 1 k p)
 
-      module _ (m : getD s i 0 ≡ 0x2D → ⊥) where
+      module _ (m : getD s i 0 ≡ code "-" → ⊥) where
         pub other-bad : letterOrDigit (getD s i 0) ≡ false → labelsFrom k hyphen (drop i s) ≡ false
         unfolding labelsFrom
         other-bad p = rw (drop-cons s i 0, ne-eqb _ _ n, ne-eqb _ _ m, p)

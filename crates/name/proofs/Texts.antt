@@ -3,6 +3,7 @@ use mathlib.Core.Path.{_≡_, refl, _∙_}
 use mathlib.Core.Bool.{Bool, true, false, not, _&&_}
 use mathlib.Core.List.{List}
 use Prim.Native.Nat.{ℕ, _+_, _-_, _≤_, _<_}
+use Prim.Native.Char.{code}
 use borrow.Author.Tests.{le-leb, lt-leb}
 use lib.Dec.{leb, eqb}
 use lib.ListN.{length, getD}
@@ -17,7 +18,7 @@ regroup false a b c = refl
 
 module _ (low : ℕ) (s : List ℕ) where
   pub text-step : (at i : ℕ) (good : Bool) → good ≡ run (textAt low s) at i
-      → (good && leb low (getD s (at + i) 0) && leb (getD s (at + i) 0) 126 && not (eqb (getD s (at + i) 0) 42)) ≡ run (textAt low s) at (i + 1)
+      → (good && leb low (getD s (at + i) 0) && leb (getD s (at + i) 0) 0x7E && not (eqb (getD s (at + i) 0) (code "*"))) ≡ run (textAt low s) at (i + 1)
   unfolding textAt
   text-step at i good e = rw (run-step, e) (regroup (run (textAt low s) at i) _ _ _)
 

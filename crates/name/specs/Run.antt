@@ -2,6 +2,7 @@
 use mathlib.Core.Bool.{Bool, true, _&&_, _||_, not}
 use mathlib.Core.List.{List}
 use Prim.Native.Nat.{ℕ, zero, suc, _+_}
+use Prim.Native.Char.{code}
 use lib.Dec.{eqb}
 use lib.ListN.{getD}
 use Rattle.name.specs.Texts.{textByte}
@@ -17,7 +18,10 @@ textAt low s i = textByte low (getD s i 0)
 
 -- y may follow x in a host name: no hyphen at a label's ends, no empty label
 unfoldable pub mayFollow : ℕ → ℕ → Bool
-mayFollow x y = letterOrDigit y || (eqb y 0x2D && not (eqb x 0x2E)) || (eqb y 0x2E && not (eqb x 0x2E) && not (eqb x 0x2D))
+mayFollow x y =
+    letterOrDigit y
+    || (eqb y (code "-") && not (eqb x (code ".")))
+    || (eqb y (code ".") && not (eqb x (code ".")) && not (eqb x (code "-")))
 
 unfoldable pub followAt : List ℕ → ℕ → Bool
 followAt s i = mayFollow (getD s i 0) (getD s (suc i) 0)

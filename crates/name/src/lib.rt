@@ -31,7 +31,7 @@ fn text_run(s: &[u8], low: u8, at: usize, n: usize) -> bool
     let mut i: usize = 0;
     while i < n {
         let b = s[at + i];
-        good = good & (low <= b) & (b <= 0x7E) & (b != 0x2A);
+        good = good & (low <= b) & (b <= 0x7E) & (b != b'*');
         i += 1;
     }
     good
@@ -117,11 +117,11 @@ pub fn name_ok(s: &[u8]) -> bool
 fn letter_or_digit(b: u8) -> bool
     ensures { λ r. ⌜ r ≡ letterOrDigit b ⌝ }
 {
-    if 0x61 <= b {
-        return b <= 0x7A;
+    if b'a' <= b {
+        return b <= b'z';
     }
-    if 0x30 <= b {
-        return b <= 0x39;
+    if b'0' <= b {
+        return b <= b'9';
     }
     false
 }
@@ -130,10 +130,10 @@ fn letter_or_digit(b: u8) -> bool
 fn may_follow(x: u8, y: u8) -> bool
     ensures { λ r. ⌜ r ≡ mayFollow x y ⌝ }
 {
-    let letter = (0x61 <= y) & (y <= 0x7A);
-    let digit = (0x30 <= y) & (y <= 0x39);
-    let hyphen = (y == 0x2D) & (x != 0x2E);
-    let dot = (y == 0x2E) & (x != 0x2E) & (x != 0x2D);
+    let letter = (b'a' <= y) & (y <= b'z');
+    let digit = (b'0' <= y) & (y <= b'9');
+    let hyphen = (y == b'-') & (x != b'.');
+    let dot = (y == b'.') & (x != b'.') & (x != b'-');
     letter | digit | hyphen | dot
 }
 
@@ -225,13 +225,13 @@ fn long_host_ok(s: &[u8]) -> bool
     let mut i: usize = 0;
     while i < s.len() {
         let b = s[i];
-        if b == 0x2E {
+        if b == b'.' {
             if !label_ok(label, hyphen) {
                 return false;
             }
             label = 0;
             hyphen = false;
-        } else if b == 0x2D {
+        } else if b == b'-' {
             if label < 1 {
                 return false;
             }
@@ -267,8 +267,8 @@ pub fn host_ok(s: &[u8]) -> bool
 pub fn folded(c: u8) -> u8
     ensures { λ r. ⌜ r ≡ fold c ⌝ }
 {
-    if (0x41 <= c) & (c <= 0x5A) {
-        return c + 0x20;
+    if (b'A' <= c) & (c <= b'Z') {
+        return c - b'A' + b'a';
     }
     c
 }
@@ -292,7 +292,7 @@ pub fn without_final_dot(s: &[u8]) -> &[u8]
     if n == 0 {
         return s;
     }
-    if s[n - 1] == 0x2E {
+    if s[n - 1] == b'.' {
         return &s[..n - 1];
     }
     s

@@ -1,5 +1,6 @@
 -- Laws of numerals: the next byte is a digit, is none, or there is none; a number above max stays above it; a number that was read is at most max.
 use Prim.Native.Nat.{ℕ, _+_, _*_, _≤_, _<_, _^_}
+use Prim.Native.Char.{code}
 use mathlib.Core.Path.{_≡_, refl}
 use mathlib.Core.List.{List, [], _∷_}
 use mathlib.Core.Bool.{Bool, true, false, cond, false≢true, _&&_}
@@ -67,7 +68,7 @@ zero-short [] h = refl
 zero-short (c ∷ []) h = refl
 zero-short (c ∷ d ∷ s) h = let z : ⊥ = omega arith in absurd z
 
-pub zero-first : (s : List ℕ) → 2 ≤ length s → leadingZero s ≡ eqb (getD s 0 0) 48
+pub zero-first : (s : List ℕ) → 2 ≤ length s → leadingZero s ≡ eqb (getD s 0 0) (code "0")
 unfolding leadingZero
 zero-first [] h = let z : ⊥ = omega arith in absurd z
 zero-first (c ∷ []) h = let z : ⊥ = omega arith in absurd z

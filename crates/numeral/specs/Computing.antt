@@ -2,7 +2,8 @@
 use Rattle.address.specs.Computing as Address
 use Rattle.numeral.specs.Numeral.{digitValue, areDigits, digitsFrom, numeralFrom, numeral, leadingZero, decimal, h16}
 use Rattle.numeral.specs.Escape.{isEscape, decoded, escapeFirst}
+use Rattle.numeral.specs.Decimal.{digitsBefore, decimalText}
 
 unfoldable pub computing : Unit {0}
-unfolding Address.computing digitValue areDigits digitsFrom numeralFrom numeral leadingZero decimal h16 isEscape decoded escapeFirst
+unfolding Address.computing digitValue areDigits digitsFrom numeralFrom numeral leadingZero decimal h16 isEscape decoded escapeFirst digitsBefore decimalText
 computing = tt

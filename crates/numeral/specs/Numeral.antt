@@ -1,5 +1,6 @@
 -- Numbers written in digits: the value of a digit, and what a text of digits stands for.
 use Prim.Native.Nat.{ℕ, _+_, _-_, _*_}
+use Prim.Native.Char.{code}
 use mathlib.Core.List.{List, [], _∷_}
 use mathlib.Core.Bool.{Bool, true, false, cond, _&&_}
 use lib.ListN.{length}
@@ -8,12 +9,12 @@ use Rattle.address.specs.Lists.{within}
 use Rattle.numeral.specs.declared.Number.{Number}
 use Rattle.numeral.specs.declared.Number.the-variants.{Value, Malformed}
 
--- the value of the digit c: '0' to '9', 'A' to 'F', 'a' to 'f'; 16 where c is none
+-- the value of the digit c, 'A' and 'a' being 10; 16 where c is none
 unfoldable pub digitValue : ℕ → ℕ
 digitValue c =
-    cond (within 48 57 c) (c - 48)
-    (cond (within 65 70 c) (c - 55)
-    (cond (within 97 102 c) (c - 87) 16))
+    cond (within (code "0") (code "9") c) (c - code "0")
+    (cond (within (code "A") (code "F") c) (c - code "A" + 10)
+    (cond (within (code "a") (code "f") c) (c - code "a" + 10) 16))
 
 -- every byte is a digit of the base
 unfoldable pub areDigits : ℕ → List ℕ → Bool
@@ -38,7 +39,7 @@ numeral base max (c ∷ s) = numeralFrom base max 0 (c ∷ s)
 unfoldable pub leadingZero : List ℕ → Bool
 leadingZero [] = false
 leadingZero (c ∷ []) = false
-leadingZero (c ∷ d ∷ s) = eqb c 48
+leadingZero (c ∷ d ∷ s) = eqb c (code "0")
 
 -- a decimal number from 0 to max, without leading zeros
 unfoldable pub decimal : ℕ → List ℕ → Number

@@ -3,6 +3,7 @@ use mathlib.Core.Path.{_≡_}
 use mathlib.Core.Bool.{Bool, true, false}
 use mathlib.Core.List.{List}
 use Prim.Native.Nat.{ℕ, _+_, _≤_, _<_}
+use Prim.Native.Char.{code}
 use lib.ListN.{length, drop}
 use lib.Seq.{length-take-le}
 use Rattle.pieces.specs.Split.{split, FirstPiece}
@@ -10,23 +11,23 @@ use Rattle.pieces.proofs.Pieces.{split-cons}
 use Rattle.pattern.specs.Pattern.{isSuffix, formOf}
 use Rattle.pattern.specs.declared.Form.the-variants.{Exact, Asterisk, Unsupported}
 
-module _ (host : Bool) (s : List ℕ) (j : ℕ) (first : FirstPiece 42 s j) where
-  pub form-exact : length s ≤ j → Exact ≡ formOf host (split 42 s)
+module _ (host : Bool) (s : List ℕ) (j : ℕ) (first : FirstPiece (code "*") s j) where
+  pub form-exact : length s ≤ j → Exact ≡ formOf host (split (code "*") s)
   unfolding formOf
   form-exact h = rw (first .last h)
 
-  module _ (more : j < length s) (q : List ℕ) (e : q ≡ drop (j + 1) s) (k : ℕ) (second : FirstPiece 42 q k) where
-    pub form-many : k < length q → Unsupported ≡ formOf host (split 42 s)
+  module _ (more : j < length s) (q : List ℕ) (e : q ≡ drop (j + 1) s) (k : ℕ) (second : FirstPiece (code "*") q k) where
+    pub form-many : k < length q → Unsupported ≡ formOf host (split (code "*") s)
     unfolding formOf
     form-many h =
-        let (p, ps, d) = split-cons 42 (drop (k + 1) q) in
+        let (p, ps, d) = split-cons (code "*") (drop (k + 1) q) in
         rw (first .more more, ← e, second .more h, d)
 
     module _ (h : length q ≤ k) where
-      pub form-one : isSuffix host q ≡ true → Asterisk j ≡ formOf host (split 42 s)
+      pub form-one : isSuffix host q ≡ true → Asterisk j ≡ formOf host (split (code "*") s)
       unfolding formOf
       form-one d = rw (first .more more, ← e, second .last h, d, length-take-le j s (first .fits))
 
-      pub form-other : isSuffix host q ≡ false → Unsupported ≡ formOf host (split 42 s)
+      pub form-other : isSuffix host q ≡ false → Unsupported ≡ formOf host (split (code "*") s)
       unfolding formOf
       form-other d = rw (first .more more, ← e, second .last h, d)

@@ -3,6 +3,7 @@ use mathlib.Core.Path.{_≡_}
 use mathlib.Core.Bool.{Bool, true, false, not}
 use mathlib.Core.List.{List}
 use Prim.Native.Nat.{ℕ, _+_, _-_, _≤_, _<_}
+use Prim.Native.Char.{code}
 use native.Mathlib.Omega.{arith}
 use lib.ListN.{length, take, drop}
 use borrow.Author.Tests.{le-leb, lt-leb}
@@ -37,7 +38,7 @@ module _ (f : Bool) (p q n : List ℕ) where
             let l : length q ≤ 0 = omega arith in
             rw (le-leb (length p + length q) (length n) h, e, ← rest-is n (length n - length q), d, le-leb (length q) 0 l)
 
-        pub match-dots : 0 < length q → not (contains 46 (part n (length p) (length n - length q))) ≡ matches f p q n
+        pub match-dots : 0 < length q → not (contains (code ".") (part n (length p) (length n - length q))) ≡ matches f p q n
         unfolding matches
         match-dots l =
             let m : length n - (length p + length q) ≡ length n - length q - length p = omega arith in

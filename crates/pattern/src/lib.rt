@@ -1,6 +1,7 @@
 // Patterns: read, and matched against handles, names and host names.
 use name::Text;
 ghost use mathlib.Core.Path.{_≡_};
+ghost use Rattle.pieces.specs.Ascii.{code};
 ghost use Rattle.address.specs.Lists.{every};
 ghost use Rattle.pieces.specs.Split.{split};
 ghost use Rattle.name.specs.Host.{isLabelByte};
@@ -50,10 +51,10 @@ fn longest_pattern(text: Text) -> usize
 fn is_label_byte(c: u8) -> bool
     ensures { λ r. ⌜ r ≡ isLabelByte c ⌝ }
 {
-    let digit = (0x30 <= c) & (c <= 0x39);
-    let capital = (0x41 <= c) & (c <= 0x5A);
-    let small = (0x61 <= c) & (c <= 0x7A);
-    digit | capital | small | (c == 0x2D)
+    let digit = (b'0' <= c) & (c <= b'9');
+    let capital = (b'A' <= c) & (c <= b'Z');
+    let small = (b'a' <= c) & (c <= b'z');
+    digit | capital | small | (c == b'-')
 }
 
 // One of the field's characters, or an asterisk.
@@ -63,7 +64,7 @@ fn is_pattern_byte(text: Text, c: u8) -> bool
     match text {
         Text::Handle => (0x21 <= c) & (c <= 0x7E),
         Text::Name => (0x20 <= c) & (c <= 0x7E),
-        Text::Host => is_label_byte(c) | (c == 0x2E) | (c == 0x2A),
+        Text::Host => is_label_byte(c) | (c == b'.') | (c == b'*'),
     }
 }
 
@@ -104,21 +105,21 @@ fn is_suffix(host: bool, q: &[u8]) -> bool
         if q.len() < 2 {
             return false;
         }
-        return q[0] == 0x2E;
+        return q[0] == b'.';
     }
     false
 }
 
 // What the asterisks of s make of it; host says whether it is a pattern of host names.
 fn pattern_form(host: bool, s: &[u8]) -> Form
-    ensures { λ r. ⌜ r ≡ formOf host (split 0x2A (now (s .entry))) ⌝ }
+    ensures { λ r. ⌜ r ≡ formOf host (split (code "*") (now (s .entry))) ⌝ }
 {
-    let j = pieces::first_piece(s, 0x2A);
+    let j = pieces::first_piece(s, b'*');
     if j == s.len() {
         return Form::Exact;
     }
     let q = &s[j + 1..];
-    let k = pieces::first_piece(q, 0x2A);
+    let k = pieces::first_piece(q, b'*');
     if k < q.len() {
         return Form::Unsupported;
     }
@@ -161,7 +162,7 @@ pub fn pattern_matches(fold: bool, prefix: &[u8], suffix: &[u8], name: &[u8]) ->
     if q == 0 {
         return true;
     }
-    !pieces::has_byte(0x2E, &name[p..at])
+    !pieces::has_byte(b'.', &name[p..at])
 }
 
 // Whether a name matches a pattern of this form.

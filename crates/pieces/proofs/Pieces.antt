@@ -8,7 +8,6 @@ use native.Mathlib.Numerals.{add-one}
 use lib.Dec.{eqb}
 use lib.ListN.{length, getD, take, drop, drop-of-length-le, length-drop}
 use lib.Seq.{take-suc, take-all, drop-cons}
-use borrow.Author.Tests.{eq-eqb, ne-eqb}
 use Rattle.pieces.specs.Split.{joinFirst, split, FirstPiece}
 
 join-nil : (b : Bool) (a : List ℕ) (r : List (List ℕ))
@@ -43,20 +42,20 @@ split-cons sep (c ∷ s) = split-cons₁ (eqb c sep) (c ∷ []) (split sep s)
 
 module _ (sep : ℕ) (s : List ℕ) (n : ℕ) where
   -- the first piece goes on past n
-  pub split-on : n < length s → (getD s n 0 ≡ sep → ⊥) → split sep s ≡ joinFirst (take n s) (split sep (drop n s))
+  pub split-on : n < length s → eqb (getD s n 0) sep ≡ false → split sep s ≡ joinFirst (take n s) (split sep (drop n s))
       → split sep s ≡ joinFirst (take (n + 1) s) (split sep (drop (n + 1) s))
   unfolding split
-  split-on h ne e =
-      e ∙ rw (add-one, drop-cons s n 0 h, ne-eqb _ _ ne, take-suc s n 0 h) (join-join (take n s) (getD s n 0 ∷ []) (split sep (drop (suc n) s)))
+  split-on h d e =
+      e ∙ rw (add-one, drop-cons s n 0 h, d, take-suc s n 0 h) (join-join (take n s) (getD s n 0 ∷ []) (split sep (drop (suc n) s)))
 
   -- it ends at n, at a separator
-  pub split-found : n < length s → getD s n 0 ≡ sep → split sep s ≡ joinFirst (take n s) (split sep (drop n s)) → FirstPiece sep s n
+  pub split-found : n < length s → eqb (getD s n 0) sep ≡ true → split sep s ≡ joinFirst (take n s) (split sep (drop n s)) → FirstPiece sep s n
   unfolding split joinFirst
-  split-found h q e =
+  split-found h d e =
       record {
         fits = omega arith;
         last = λ k. let z : ⊥ = omega arith in absurd z;
-        more = λ k. e ∙ rw (add-one, drop-cons s n 0 h, eq-eqb _ _ q, append-nil);
+        more = λ k. e ∙ rw (add-one, drop-cons s n 0 h, d, append-nil);
       }
 
   -- it ends at n, at the end of s

@@ -4,50 +4,16 @@
 //
 // For each path one line: status, reason, kind, count and the record numbers, as `200 0 2 1 0`.
 // PATHS is read in a stream and may be of any length. IMAGE has at most 65,536 bytes.
+ghost use Prim.Native.Nat.{_+_, _≤_, _<_};
+ghost use mathlib.Core.List.{_++_};
+ghost use lib.ListN.{length, take};
+ghost use Rattle.rdap.specs.Calls.{answerOf};
+ghost use Rattle.lines.specs.Line.{lineText, room};
+ghost use Rattle.lines.specs.Writing.{Written};
 use libc::STDERR_FILENO;
 use libc::STDOUT_FILENO;
 
-// The output: bytes at the start of a buffer, and how many. A line has at most some 20,500 bytes.
-
-fn put(out: &mut [u8; 65536], at: usize, b: u8) -> usize {
-    if at < 65536 {
-        out[at] = b;
-        return at + 1;
-    }
-    at
-}
-
-fn put_bytes(out: &mut [u8; 65536], from: usize, s: &[u8]) -> usize {
-    let mut at = from;
-    for i in 0..s.len() {
-        at = put(out, at, s[i]);
-    }
-    at
-}
-
-fn put_number(out: &mut [u8; 65536], at: usize, n: u32) -> usize {
-    let mut text = [0u8; 20];
-    let k = io::decimal(n as u64, &mut text);
-    put_bytes(out, at, &text[..k])
-}
-
-// A space and a number.
-fn put_next(out: &mut [u8; 65536], at: usize, n: u32) -> usize {
-    let at = put(out, at, b' ');
-    put_number(out, at, n)
-}
-
-// The first record numbers of the list, so many.
-fn put_records(out: &mut [u8; 65536], from: usize, list: &[u32], count: usize) -> usize {
-    let mut at = from;
-    for i in 0..list.len() {
-        if count <= i {
-            return at;
-        }
-        at = put_next(out, at, list[i]);
-    }
-    at
-}
+// The output: what was put stands at the start of a buffer of 32,768 bytes and room for a line.
 
 fn write_out(bytes: &[u8]) {
     if !io::write_all(STDOUT_FILENO, bytes) {
@@ -62,8 +28,10 @@ fn flush(out: &[u8], at: usize) {
     }
 }
 
-// Writes out what was put, unless another line surely fits behind it.
-fn make_room(out: &[u8; 65536], at: usize) -> usize {
+// Where the next line goes: after what was put, while that is short; else what was put is written out first.
+fn make_room(out: &[u8; 77868], at: usize) -> usize
+    ensures { λ r. ⌜ r < 32768 ⌝ }
+{
     if at < 32768 {
         return at;
     }
@@ -71,26 +39,12 @@ fn make_room(out: &[u8; 65536], at: usize) -> usize {
     0
 }
 
-// Answers a path.
-fn put_answer(
-    path: &[u8],
-    image: &[u8],
-    list: &mut [u32; 4096],
-    out: &mut [u8; 65536],
-    at: usize,
-) -> usize {
-    let a = rdap::answer(path, image, list);
-    let kind = a.kind;
-    let reason = a.reason;
-    let count = a.count;
-    let at = put_number(out, at, a.status);
-    let at = put_next(out, at, reason);
-    let at = put_next(out, at, rdap::kind_number(kind));
-    let at = put_next(out, at, count);
-    let found = if reason == 0 { count } else { 0 };
-    let at = put_records(out, at, list, found as usize);
-    let at = put(out, at, b'\n');
-    make_room(out, at)
+// Answers a path, and puts its line there. Gives where the line ends.
+fn put_answer(path: &[u8], image: &[u8], list: &mut [u32; 4096], out: &mut [u8], at: usize) -> usize
+    requires { ⌜ at + room ≤ length (now out) ⌝ }
+    ensures { λ r. ⌜ Written (take at (now (out .entry)) ++ lineText (answerOf (now (path .entry)) (now (image .entry)) 4096)) (now (out .entry)) (now (out .exit)) r ⌝ }
+{
+    at + lines::put_answer(path, image, list, &mut out[at..])
 }
 
 // How many bytes of a line are kept, and how many of the output are put.
@@ -114,10 +68,10 @@ fn end_line(
     kept: Kept,
     image: &[u8],
     list: &mut [u32; 4096],
-    out: &mut [u8; 65536],
+    out: &mut [u8; 77868],
 ) -> Kept {
     let len = kept.line;
-    let mut at = kept.out;
+    let mut at = make_room(out, kept.out);
     if len <= line.len() {
         at = put_answer(&line[..len], image, list, out, at);
     }
@@ -130,7 +84,7 @@ fn take_byte(
     kept: Kept,
     image: &[u8],
     list: &mut [u32; 4096],
-    out: &mut [u8; 65536],
+    out: &mut [u8; 77868],
 ) -> Kept {
     if b == b'\n' {
         return end_line(line, kept, image, list, out);
@@ -147,7 +101,7 @@ fn take_bytes(
     before: Kept,
     image: &[u8],
     list: &mut [u32; 4096],
-    out: &mut [u8; 65536],
+    out: &mut [u8; 77868],
 ) -> Kept {
     let mut kept = before;
     for i in 0..bytes.len() {
@@ -164,7 +118,7 @@ fn take_read(
     kept: Kept,
     image: &[u8],
     list: &mut [u32; 4096],
-    out: &mut [u8; 65536],
+    out: &mut [u8; 77868],
 ) -> Kept {
     let n = io::count(got, chunk);
     take_bytes(&chunk[..n], line, kept, image, list, out)
@@ -176,7 +130,7 @@ fn finish(
     kept: Kept,
     image: &[u8],
     list: &mut [u32; 4096],
-    out: &mut [u8; 65536],
+    out: &mut [u8; 77868],
 ) {
     let len = kept.line;
     let mut at = kept.out;
@@ -191,7 +145,7 @@ fn finish(
 fn answer_lines(fd: i32, name: &[u8], chunk: &mut [u8], first: isize, image: &[u8]) {
     let mut line = [0u8; 1025];
     let mut list = [0u32; 4096];
-    let mut out = [0u8; 65536];
+    let mut out = [0u8; 77868];
     let mut kept = Kept { line: 0, out: 0 };
     let mut got = first;
     let mut turns = u64::MAX;

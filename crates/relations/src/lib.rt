@@ -1,92 +1,91 @@
 // Lookup, up, top, down and bottom over a sound image, reported to a lent list.
+ghost use Rattle.address.specs.Address.{numbers};
 ghost use Rattle.listing.specs.Listing.{Reported};
 ghost use Rattle.blocks.specs.Relations.{lookup as «lookup_of», up as «up_of», top as «top_of», down as «down_of», bottom as «bottom_of»};
-ghost use Rattle.scans.specs.Standing.{blocksIn, between, Asked};
+ghost use Rattle.scans.specs.Standing.{blocksIn, Asked};
+ghost use Rattle.scans.specs.Tests.{foundNumbers};
+use address::Range;
 use image::Run;
 use listing::Listed;
 use listing::report;
+use scans::Found;
 
-// The smallest block that covers first to last.
+fn report_found(found: Found, list: &mut [u32]) -> Listed
+    ensures { λ r. ⌜ Reported (foundNumbers found) (now (list .entry)) (now (list .exit)) r ⌝ }
+{
+    match found {
+        Found::At(n) => report(&[n], list),
+        Found::Nothing => Listed::Done(0),
+    }
+}
+
+// The smallest block that covers the range.
 pub fn lookup(
     image: &[u8],
     places: &[u32; 4096],
     blocks: Run,
-    first: &[u8],
-    last: &[u8],
+    range: Range,
     list: &mut [u32],
 ) -> Listed
-    requires { ⌜ Asked (now image) (now places) blocks (now first) (now last) ⌝ }
-    ensures { λ r. ⌜ Reported («lookup_of» (blocksIn (now (image .entry)) (blocks .first)) (between (now (first .entry)) (now (last .entry)))) (now (list .entry)) (now (list .exit)) r ⌝ }
+    requires { ⌜ Asked (now image) (now places) blocks range ⌝ }
+    ensures { λ r. ⌜ Reported («lookup_of» (blocksIn (now (image .entry)) (blocks .first)) (numbers range)) (now (list .entry)) (now (list .exit)) r ⌝ }
 {
-    let mut hits = [0u32; 4096];
-    let n = scans::last_around(image, places, blocks, first, last, false, &mut hits);
-    report(&hits[..n], list)
+    report_found(
+        scans::last_around(image, places, blocks, range, false),
+        list,
+    )
 }
 
-// The smallest block that strictly covers first to last.
-pub fn up(
-    image: &[u8],
-    places: &[u32; 4096],
-    blocks: Run,
-    first: &[u8],
-    last: &[u8],
-    list: &mut [u32],
-) -> Listed
-    requires { ⌜ Asked (now image) (now places) blocks (now first) (now last) ⌝ }
-    ensures { λ r. ⌜ Reported («up_of» (blocksIn (now (image .entry)) (blocks .first)) (between (now (first .entry)) (now (last .entry)))) (now (list .entry)) (now (list .exit)) r ⌝ }
+// The smallest block that strictly covers the range.
+pub fn up(image: &[u8], places: &[u32; 4096], blocks: Run, range: Range, list: &mut [u32]) -> Listed
+    requires { ⌜ Asked (now image) (now places) blocks range ⌝ }
+    ensures { λ r. ⌜ Reported («up_of» (blocksIn (now (image .entry)) (blocks .first)) (numbers range)) (now (list .entry)) (now (list .exit)) r ⌝ }
 {
-    let mut hits = [0u32; 4096];
-    let n = scans::last_around(image, places, blocks, first, last, true, &mut hits);
-    report(&hits[..n], list)
+    report_found(scans::last_around(image, places, blocks, range, true), list)
 }
 
-// The largest block that strictly covers first to last.
+// The largest block that strictly covers the range.
 pub fn top(
     image: &[u8],
     places: &[u32; 4096],
     blocks: Run,
-    first: &[u8],
-    last: &[u8],
+    range: Range,
     list: &mut [u32],
 ) -> Listed
-    requires { ⌜ Asked (now image) (now places) blocks (now first) (now last) ⌝ }
-    ensures { λ r. ⌜ Reported («top_of» (blocksIn (now (image .entry)) (blocks .first)) (between (now (first .entry)) (now (last .entry)))) (now (list .entry)) (now (list .exit)) r ⌝ }
+    requires { ⌜ Asked (now image) (now places) blocks range ⌝ }
+    ensures { λ r. ⌜ Reported («top_of» (blocksIn (now (image .entry)) (blocks .first)) (numbers range)) (now (list .entry)) (now (list .exit)) r ⌝ }
 {
-    let mut hits = [0u32; 4096];
-    let n = scans::first_around(image, places, blocks, first, last, &mut hits);
-    report(&hits[..n], list)
+    report_found(scans::first_around(image, places, blocks, range), list)
 }
 
-// The blocks strictly inside first to last, with no registered block strictly between.
+// The blocks strictly inside the range, with no registered block strictly between.
 pub fn down(
     image: &[u8],
     places: &[u32; 4096],
     blocks: Run,
-    first: &[u8],
-    last: &[u8],
+    range: Range,
     list: &mut [u32],
 ) -> Listed
-    requires { ⌜ Asked (now image) (now places) blocks (now first) (now last) ⌝ }
-    ensures { λ r. ⌜ Reported («down_of» (blocksIn (now (image .entry)) (blocks .first)) (between (now (first .entry)) (now (last .entry)))) (now (list .entry)) (now (list .exit)) r ⌝ }
+    requires { ⌜ Asked (now image) (now places) blocks range ⌝ }
+    ensures { λ r. ⌜ Reported («down_of» (blocksIn (now (image .entry)) (blocks .first)) (numbers range)) (now (list .entry)) (now (list .exit)) r ⌝ }
 {
     let mut hits = [0u32; 4096];
-    let n = scans::children(image, places, blocks, first, last, &mut hits);
+    let n = scans::children(image, places, blocks, range, &mut hits);
     report(&hits[..n], list)
 }
 
-// Where a block is strictly inside first to last, every block that is the smallest one holding some address of it.
+// Where a block is strictly inside the range, every block that is the smallest one holding some address of it.
 pub fn bottom(
     image: &[u8],
     places: &[u32; 4096],
     blocks: Run,
-    first: &[u8],
-    last: &[u8],
+    range: Range,
     list: &mut [u32],
 ) -> Listed
-    requires { ⌜ Asked (now image) (now places) blocks (now first) (now last) ⌝ }
-    ensures { λ r. ⌜ Reported («bottom_of» (blocksIn (now (image .entry)) (blocks .first)) (between (now (first .entry)) (now (last .entry)))) (now (list .entry)) (now (list .exit)) r ⌝ }
+    requires { ⌜ Asked (now image) (now places) blocks range ⌝ }
+    ensures { λ r. ⌜ Reported («bottom_of» (blocksIn (now (image .entry)) (blocks .first)) (numbers range)) (now (list .entry)) (now (list .exit)) r ⌝ }
 {
     let mut hits = [0u32; 4096];
-    let n = bottom::bottom(image, places, blocks, first, last, &mut hits);
+    let n = bottom::bottom(image, places, blocks, range, &mut hits);
     report(&hits[..n], list)
 }

@@ -6,8 +6,7 @@ use lib.Dec.{leb}
 use borrow.Author.Tests.{eq-eqb, ne-eqb, le-leb}
 use native.Mathlib.Omega.{arith}
 use Rattle.address.specs.Ranges.{Range, covers, strictlyCovers, strictlyInside}
-use Rattle.address.proofs.Covering.{strictly-covers}
-use Rattle.address.proofs.Positions.{not-leb}
+use Rattle.address.proofs.Covering.{not-leb, strictly-covers}
 use Rattle.scans.specs.Tests.{surroundsBy, freeAfter, keepsFrom}
 
 module _ (a b : Range) {u : Bool} (e : u ≡ leb (a .first) (b .first)) where
@@ -52,15 +51,16 @@ module _ (strict : Bool) (r q : Range) {u : Bool} (e : u ≡ covers r q) where
   surrounds-yes f s = rw s (sym f ∙ e)
 
 -- strictly inside, and after the blocks that were kept
-module _ (n k : ℕ) (r q : Range) {u : Bool} (e : u ≡ strictlyInside r q) where
-  pub keeps-no : u ≡ false → false ≡ keepsFrom (freeAfter n k) r q
-  keeps-no f = rw (sym e ∙ f)
+module _ (r q : Range) {u : Bool} (e : u ≡ strictlyInside r q) where
+  pub keeps-no : (free : ℕ) → u ≡ false → false ≡ keepsFrom free r q
+  keeps-no free f = rw (sym e ∙ f)
 
-  pub keeps-first : u ≡ true → n ≡ 0 → true ≡ keepsFrom (freeAfter n k) r q
-  keeps-first f z = rw (sym e ∙ f, eq-eqb n 0 z) (sym (le-leb 0 (r .first) (omega arith)))
+  module _ (n k : ℕ) (f : u ≡ true) where
+    pub keeps-first : n ≡ 0 → true ≡ keepsFrom (freeAfter n k) r q
+    keeps-first z = rw (sym e ∙ f, eq-eqb n 0 z) (sym (le-leb 0 (r .first) (omega arith)))
 
-  pub keeps-later : u ≡ true → (n ≡ 0 → ⊥) → {v : Bool} → v ≡ leb (r .first) k → not v ≡ keepsFrom (freeAfter n k) r q
-  keeps-later f z g = rw (sym e ∙ f, ne-eqb n 0 z) (not-leb (r .first) k g)
+    pub keeps-later : (n ≡ 0 → ⊥) → {v : Bool} → v ≡ leb (r .first) k → not v ≡ keepsFrom (freeAfter n k) r q
+    keeps-later z g = rw (sym e ∙ f, ne-eqb n 0 z) (not-leb (r .first) k g)
 
 pub positive : (n : ℕ) → (n ≡ 0 → ⊥) → 0 < n
 positive zero f = absurd (f refl)

@@ -12,6 +12,8 @@ use lib.Seq.{slice}
 use Rattle.address.specs.Lists.{keep}
 use Rattle.address.specs.Ranges.{wellFormed}
 use Rattle.address.specs.Positions.{rangeIn}
+use Rattle.address.specs.Address.{numbers}
+use Rattle.address.specs.declared.Range.{Range}
 use Rattle.fields.specs.Slices.{take-slice, drop-slice}
 use Rattle.records.specs.Record.{widthOf, rangeOf}
 use Rattle.image.specs.Image.{imageOf}
@@ -26,7 +28,7 @@ use Rattle.blocks.specs.Blocks.{Block, blocksFrom}
 use Rattle.blocks.specs.Defects.{accepted}
 use Rattle.blocks.proofs.Geometry.{proper}
 use Rattle.blocks.proofs.Laminar.{Laminar, cons, accepted-laminar}
-use Rattle.scans.specs.Standing.{blocksIn, between, Asked}
+use Rattle.scans.specs.Standing.{blocksIn, Asked}
 use Rattle.scans.specs.Tests.{Comparable}
 use Rattle.scans.proofs.Accepting.{blocks-accepted}
 
@@ -71,12 +73,12 @@ module _ (s : List ℕ) (family : ℕ) where
   left-none zero k e n = let h : length (recordsOf (imageOf s)) ≤ k = omega arith in rw (drop-of-length-le (recordsOf (imageOf s)) h)
   left-none (suc d) k e n = left-other s family k (omega arith) (n k (omega arith) (omega arith)) ∙ left-none d (k + 1) (omega arith) (λ i p. n i (omega arith))
 
-module _ {s places : List ℕ} {blocks : Run} {first last : List ℕ} (q : Asked s places blocks first last) where
+module _ {s places : List ℕ} {blocks : Run} {range : Range} (q : Asked s places blocks range) where
   pub asked-accepted : T (accepted (blocksIn s (blocks .first)))
   asked-accepted = blocks-accepted s (q .selected .count) (q .selected .indexed .sound) (blocks .first) (q .block)
 
-  pub asked-proper : T (wellFormed (between first last))
-  asked-proper = proper (between first last) .1 (q .proper)
+  pub asked-proper : T (wellFormed (numbers range))
+  asked-proper = proper (numbers range) .1 (q .proper)
 
   pub asked-few : blocks .until ≤ 4096
   asked-few = omega (arith, q .selected .run-of .ends, few-records s (q .selected .count) (q .selected .indexed .sound))
@@ -112,31 +114,42 @@ module _ {s places : List ℕ} {blocks : Run} {first last : List ℕ} (q : Asked
       omega (arith, place, standing s i known .within, few-bytes s (q .selected .count) (q .selected .indexed .sound)),
     )
 
-    -- whose range starts at a position
-    module _ {at : ℕ} (e : at ≡ getD places i 0 + 6) where
-      starts : at ≡ placeOf s i + 6
-      starts = e ∙ ap (λ (p : ℕ). p + 6) place
+-- at a record of the run, whose range starts at a position and has the family's width
+pub record Here (s places : List ℕ) (blocks : Run) (range : Range) (i at w : ℕ) : Type 0 where
+  pub asked : Asked s places blocks range
+  pub low : blocks .from ≤ i
+  pub high : i < blocks .until
+  pub start : at ≡ getD places i 0 + 6
+  pub wide : w ≡ widthOf (blocks .first)
 
-      pub comparable : Comparable s at first last
-      comparable =
-          record {
-            wide = rw (q .first-wide) (wide-family (blocks .first));
-            same = q .last-wide ∙ sym (q .first-wide);
-            fits = rw starts (range-fits s (blocks .first) i known tagged (low-family (blocks .first) (q .block)) (length first) (q .first-wide));
-          }
+module _ {s places : List ℕ} {blocks : Run} {range : Range} {i at w : ℕ} (h : Here s places blocks range i at w) where
+  starts : at ≡ placeOf s i + 6
+  starts = h .start ∙ ap (λ (p : ℕ). p + 6) (place (h .asked) (h .low) (h .high))
 
-      pub next-left : blocksLeft s (blocks .first) i ≡ record { number = i; range = rangeIn s at (length first) } ∷ blocksLeft s (blocks .first) (i + 1)
-      next-left = rw starts (left-block s (blocks .first) i known tagged (low-family (blocks .first) (q .block)) (length first) (q .first-wide))
+  pub comparable : Comparable s at w
+  comparable =
+      let q = h .asked in
+      record {
+        wide = rw (h .wide) (wide-family (blocks .first));
+        fits = rw starts (range-fits s (blocks .first) i (known q (h .low) (h .high)) (tagged q (h .low) (h .high)) (low-family (blocks .first) (q .block)) w (h .wide));
+      }
 
-  -- the blocks from a record of the run on, and behind the last
-  pub run-laminar : {i : ℕ} → blocks .from ≤ i → i ≤ blocks .until → Laminar (blocksLeft s (blocks .first) i)
-  run-laminar {i} low high = let e : blocks .from + (i - blocks .from) ≡ i = omega arith in rw e at (go (i - blocks .from) (omega arith))
-    where
-      tail : {b : Block} {bs : List Block} → Laminar (b ∷ bs) → Laminar bs
-      tail (cons p f l) = l
+  pub next-left : blocksLeft s (blocks .first) i ≡ record { number = i; range = rangeIn s at w } ∷ blocksLeft s (blocks .first) (i + 1)
+  next-left =
+      let q = h .asked in
+      rw starts (left-block s (blocks .first) i (known q (h .low) (h .high)) (tagged q (h .low) (h .high)) (low-family (blocks .first) (q .block)) w (h .wide))
 
-      go : (k : ℕ) → blocks .from + k ≤ blocks .until → Laminar (blocksLeft s (blocks .first) (blocks .from + k))
-      go zero h = rw (add-zero (blocks .from), run-start) (accepted-laminar (blocksIn s (blocks .first)) asked-accepted)
-      go (suc k) h =
-          let e : blocks .from + suc k ≡ blocks .from + k + 1 = omega arith in
-          rw e (tail (rw (next-left {i = blocks .from + k} (omega arith) (omega arith) refl) at (go k (omega arith))))
+-- the blocks from a record of the run on, and behind the last
+pub run-laminar : {s places : List ℕ} {blocks : Run} {range : Range} (q : Asked s places blocks range) {i : ℕ} → blocks .from ≤ i → i ≤ blocks .until
+    → Laminar (blocksLeft s (blocks .first) i)
+run-laminar {s} {places} {blocks} q {i} low high = let e : blocks .from + (i - blocks .from) ≡ i = omega arith in rw e at (go (i - blocks .from) (omega arith))
+  where
+    tail : {b : Block} {bs : List Block} → Laminar (b ∷ bs) → Laminar bs
+    tail (cons p f l) = l
+
+    go : (k : ℕ) → blocks .from + k ≤ blocks .until → Laminar (blocksLeft s (blocks .first) (blocks .from + k))
+    go zero h = rw (add-zero (blocks .from), run-start q) (accepted-laminar (blocksIn s (blocks .first)) (asked-accepted q))
+    go (suc k) h =
+        let e : blocks .from + suc k ≡ blocks .from + k + 1 = omega arith in
+        let x : Here s places blocks _ (blocks .from + k) _ _ = record { asked = q; low = omega arith; high = omega arith; start = refl; wide = refl } in
+        rw e (tail (rw (next-left x) at (go k (omega arith))))

@@ -3,10 +3,9 @@ use Prim.Native.Nat.{ℕ, _≤_}
 use mathlib.Core.Bool.{true}
 use mathlib.Core.Path.{_≡_}
 use mathlib.Core.List.{List}
-use lib.ListN.{length}
-use Rattle.address.specs.Number.{value}
-use Rattle.address.specs.Ranges.{Range}
-use Rattle.records.specs.Record.{isBlock, widthOf}
+use Rattle.address.specs.Address.{number}
+use Rattle.address.specs.declared.Range.{Range}
+use Rattle.records.specs.Record.{isBlock}
 use Rattle.image.specs.Image.{imageOf}
 use Rattle.image.specs.Part.{recordsOf}
 use Rattle.image.specs.Index.{Selected}
@@ -17,15 +16,9 @@ use Rattle.blocks.specs.Blocks.{Block, blocksOf}
 unfoldable pub blocksIn : List ℕ → ℕ → List Block
 blocksIn image family = blocksOf family (recordsOf (imageOf image))
 
--- the range of two addresses or numbers, high byte first
-abbrev pub between : List ℕ → List ℕ → Range
-between first last = record { first = value first; last = value last }
-
--- What is asked of a sound image with its index: the run of the records of one tag, a block's, and a range of its width, first not above last.
-pub record Asked (image places : List ℕ) (blocks : Run) (first last : List ℕ) : Type 0 where
+-- What is asked of a sound image with its index: the run of the records of one tag, a block's, and a range, first not above last.
+pub record Asked (image places : List ℕ) (blocks : Run) (range : Range) : Type 0 where
   pub selected : Selected image places blocks
   pub one : blocks .last ≡ blocks .first
   pub block : isBlock (blocks .first) ≡ true
-  pub first-wide : length first ≡ widthOf (blocks .first)
-  pub last-wide : length last ≡ widthOf (blocks .first)
-  pub proper : value first ≤ value last
+  pub proper : number (range .first) ≤ number (range .last)

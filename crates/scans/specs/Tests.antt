@@ -1,20 +1,20 @@
 -- The tests of the passes.
 use Prim.Native.Nat.{ℕ, suc, _+_, _*_, _≤_}
 use mathlib.Core.Bool.{Bool, true, false, cond, _&&_}
-use mathlib.Core.Path.{_≡_}
-use mathlib.Core.List.{List}
+use mathlib.Core.List.{List, [], _∷_}
 use lib.Dec.{eqb, leb}
 use lib.ListN.{length}
 use Rattle.blocks.specs.Blocks.{Block}
 use Rattle.blocks.specs.Relations.{lookup, up}
 use Rattle.address.specs.Ranges.{Range, covers, strictlyCovers, strictlyInside}
 use Rattle.address.specs.Positions.{Wide}
+use Rattle.scans.specs.declared.Found.{Found}
+use Rattle.scans.specs.declared.Found.the-variants.{At, Nothing}
 
--- first and last of one width, and a range of it at a position
-pub record Comparable (s : List ℕ) (at : ℕ) (first last : List ℕ) : Type 0 where
-  pub wide : Wide (length first)
-  pub same : length last ≡ length first
-  pub fits : at + 2 * length first ≤ length s
+-- a range of a width at a position
+pub record Comparable (s : List ℕ) (at width : ℕ) : Type 0 where
+  pub wide : Wide width
+  pub fits : at + 2 * width ≤ length s
 
 -- covers, or strictly
 abbrev pub surroundsBy : Bool → Range → Range → Bool
@@ -33,3 +33,8 @@ keepsFrom free r q = strictlyInside r q && leb free (r .first)
 abbrev pub lastAround : Bool → List Block → Range → List ℕ
 lastAround true bs q = up bs q
 lastAround false bs q = lookup bs q
+
+-- the record numbers that an answer stands for
+abbrev pub foundNumbers : Found → List ℕ
+foundNumbers (At n) = n ∷ []
+foundNumbers Nothing = []

@@ -2,91 +2,86 @@
 // by their first address, and the tests on ranges that they use.
 ghost use mathlib.Core.Path.{_≡_};
 ghost use Prim.Native.Nat.{_+_, _*_, _≤_, _<_};
-ghost use lib.Dec.{ltb};
 ghost use lib.ListN.{length, getD};
 ghost use Rattle.address.specs.Lists.{any as «any_of»};
-ghost use Rattle.address.specs.Number.{value};
+ghost use Rattle.address.specs.Address.{number, numbers};
 ghost use Rattle.address.specs.Ranges.{covers as «covers_of», strictlyInside};
-ghost use Rattle.address.specs.Positions.{Wide, numberIn, rangeIn};
+ghost use Rattle.address.specs.Positions.{numberIn, rangeIn};
 ghost use Rattle.blocks.specs.Relations.{top as «top_of», down as «down_of»};
-ghost use Rattle.scans.specs.Standing.{blocksIn, between, Asked};
+ghost use Rattle.scans.specs.Standing.{blocksIn, Asked};
 ghost use Rattle.listing.specs.Listing.{Collected};
-ghost use Rattle.scans.specs.Tests.{Comparable, surroundsBy, freeAfter, keepsFrom, lastAround};
-use address::numbers_at_most;
+ghost use Rattle.scans.specs.Tests.{Comparable, surroundsBy, freeAfter, keepsFrom, lastAround, foundNumbers};
+use address::Range;
+use address::at_least_at;
+use address::at_most_at;
 use image::Run;
 
-// Whether the range at a position covers first to last.
-fn covers(image: &[u8], at: usize, first: &[u8], last: &[u8]) -> bool
-    requires { ⌜ Comparable (now image) at (now first) (now last) ⌝ }
-    ensures { λ r. ⌜ r ≡ «covers_of» (rangeIn (now (image .entry)) at (length (now (first .entry)))) (between (now (first .entry)) (now (last .entry))) ⌝ }
-{
-    let width = first.len();
-    if !numbers_at_most(image, at, first, 0, width) {
-        return false;
-    }
-    numbers_at_most(last, 0, image, at + width, width)
+// The record number of a block, if there is one.
+pub enum Found {
+    At(u32),
+    Nothing,
 }
 
-// Whether the range at a position lies inside first to last.
-fn inside(image: &[u8], at: usize, first: &[u8], last: &[u8]) -> bool
-    requires { ⌜ Comparable (now image) at (now first) (now last) ⌝ }
-    ensures { λ r. ⌜ r ≡ «covers_of» (between (now (first .entry)) (now (last .entry))) (rangeIn (now (image .entry)) at (length (now (first .entry)))) ⌝ }
+// Whether the block's range at a position covers the range.
+fn covers(image: &[u8], at: usize, width: usize, range: Range) -> bool
+    requires { ⌜ Comparable (now image) at width ⌝ }
+    ensures { λ r. ⌜ r ≡ «covers_of» (rangeIn (now (image .entry)) at width) (numbers range) ⌝ }
 {
-    let width = first.len();
-    if !numbers_at_most(first, 0, image, at, width) {
+    if !at_least_at(range.first, image, at, width) {
         return false;
     }
-    numbers_at_most(image, at + width, last, 0, width)
+    at_most_at(range.last, image, at + width, width)
+}
+
+// Whether it lies inside the range.
+fn inside(image: &[u8], at: usize, width: usize, range: Range) -> bool
+    requires { ⌜ Comparable (now image) at width ⌝ }
+    ensures { λ r. ⌜ r ≡ «covers_of» (numbers range) (rangeIn (now (image .entry)) at width) ⌝ }
+{
+    if !at_most_at(range.first, image, at, width) {
+        return false;
+    }
+    at_least_at(range.last, image, at + width, width)
 }
 
 // Whether it lies inside and differs.
-fn strictly_inside(image: &[u8], at: usize, first: &[u8], last: &[u8]) -> bool
-    requires { ⌜ Comparable (now image) at (now first) (now last) ⌝ }
-    ensures { λ r. ⌜ r ≡ strictlyInside (rangeIn (now (image .entry)) at (length (now (first .entry)))) (between (now (first .entry)) (now (last .entry))) ⌝ }
+fn strictly_inside(image: &[u8], at: usize, width: usize, range: Range) -> bool
+    requires { ⌜ Comparable (now image) at width ⌝ }
+    ensures { λ r. ⌜ r ≡ strictlyInside (rangeIn (now (image .entry)) at width) (numbers range) ⌝ }
 {
-    if !inside(image, at, first, last) {
+    if !inside(image, at, width, range) {
         return false;
     }
-    !covers(image, at, first, last)
+    !covers(image, at, width, range)
 }
 
-// Whether the range at a position begins after a bound.
-fn begins_after(image: &[u8], at: usize, bound: &[u8]) -> bool
-    requires { ⌜ Wide (length (now bound)) × (at + 2 * length (now bound) ≤ length (now image)) ⌝ }
-    ensures { λ r. ⌜ r ≡ ltb (value (now (bound .entry))) (numberIn (now (image .entry)) at (length (now (bound .entry)))) ⌝ }
+// Whether it is around the range, strictly or not. It does not begin after the range's first.
+fn surrounds(image: &[u8], at: usize, width: usize, range: Range, strict: bool) -> bool
+    requires { ⌜ Comparable (now image) at width × (numberIn (now image) at width ≤ number (range .first)) ⌝ }
+    ensures { λ r. ⌜ r ≡ surroundsBy strict (rangeIn (now (image .entry)) at width) (numbers range) ⌝ }
 {
-    !numbers_at_most(image, at, bound, 0, bound.len())
-}
-
-// Whether the range at a position, which does not begin after first, is around first to last, strictly or not.
-fn surrounds(image: &[u8], at: usize, first: &[u8], last: &[u8], strict: bool) -> bool
-    requires { ⌜ Comparable (now image) at (now first) (now last) × (numberIn (now image) at (length (now first)) ≤ value (now first)) ⌝ }
-    ensures { λ r. ⌜ r ≡ surroundsBy strict (rangeIn (now (image .entry)) at (length (now (first .entry)))) (between (now (first .entry)) (now (last .entry))) ⌝ }
-{
-    let width = first.len();
-    if !numbers_at_most(last, 0, image, at + width, width) {
+    if !at_most_at(range.last, image, at + width, width) {
         return false;
     }
     if strict {
-        return !inside(image, at, first, last);
+        return !inside(image, at, width, range);
     }
     true
 }
 
-// Whether it is strictly inside first to last and begins after the last of the n blocks kept before it, whose range is at kept.
-fn keeps(image: &[u8], at: usize, first: &[u8], last: &[u8], n: usize, kept: usize) -> bool
-    requires { ⌜ Comparable (now image) at (now first) (now last) × (0 < n → kept + 2 * length (now first) ≤ length (now image)) ⌝ }
-    ensures { λ r. ⌜ r ≡ keepsFrom (freeAfter n (numberIn (now (image .entry)) (kept + length (now (first .entry))) (length (now (first .entry)))))
-        (rangeIn (now (image .entry)) at (length (now (first .entry)))) (between (now (first .entry)) (now (last .entry))) ⌝ }
+// Whether it is strictly inside the range and begins after the last of the n blocks kept before it, whose range is at kept.
+fn keeps(image: &[u8], at: usize, width: usize, range: Range, n: usize, kept: usize) -> bool
+    requires { ⌜ Comparable (now image) at width × (0 < n → kept + 2 * width ≤ length (now image)) ⌝ }
+    ensures { λ r. ⌜ r ≡ keepsFrom (freeAfter n (numberIn (now (image .entry)) (kept + width) width))
+        (rangeIn (now (image .entry)) at width) (numbers range) ⌝ }
 {
-    if !strictly_inside(image, at, first, last) {
+    if !strictly_inside(image, at, width, range) {
         return false;
     }
     if n == 0 {
         return true;
     }
-    let width = first.len();
-    !numbers_at_most(image, at, image, kept + width, width)
+    !address::numbers_at_most(image, at, image, kept + width, width)
 }
 
 // Where the range of a block starts, by its record number.
@@ -97,83 +92,74 @@ pub fn range_start(places: &[u32; 4096], number: u32) -> usize
     places[number as usize] as usize + 6
 }
 
-// Lookup and up: the last block around first to last, strictly or not.
+// Lookup and up: the last block around the range, strictly or not.
 pub fn last_around(
     image: &[u8],
     places: &[u32; 4096],
     blocks: Run,
-    first: &[u8],
-    last: &[u8],
+    range: Range,
     strict: bool,
-    hits: &mut [u32; 4096],
-) -> usize
-    requires { ⌜ Asked (now image) (now places) blocks (now first) (now last) × (length (now hits) ≡ 4096) ⌝ }
-    ensures { λ r. ⌜ Collected (now (hits .exit)) (lastAround strict (blocksIn (now (image .entry)) (blocks .first)) (between (now (first .entry)) (now (last .entry)))) r ⌝ }
+) -> Found
+    requires { ⌜ Asked (now image) (now places) blocks range ⌝ }
+    ensures { λ r. ⌜ foundNumbers r ≡ lastAround strict (blocksIn (now (image .entry)) (blocks .first)) (numbers range) ⌝ }
 {
-    let mut n: usize = 0;
+    let width = records::width_of(blocks.first);
+    let mut found = Found::Nothing;
     let mut i = blocks.from;
     while i < blocks.until {
         let at = range_start(places, i);
-        if begins_after(image, at, first) {
-            return n;
+        if !at_least_at(range.first, image, at, width) {
+            return found;
         }
-        if surrounds(image, at, first, last, strict) {
-            hits[0] = i;
-            n = 1;
+        if surrounds(image, at, width, range, strict) {
+            found = Found::At(i);
         }
         i += 1;
     }
-    n
+    found
 }
 
-// Top: the first block strictly around first to last.
-pub fn first_around(
-    image: &[u8],
-    places: &[u32; 4096],
-    blocks: Run,
-    first: &[u8],
-    last: &[u8],
-    hits: &mut [u32; 4096],
-) -> usize
-    requires { ⌜ Asked (now image) (now places) blocks (now first) (now last) × (length (now hits) ≡ 4096) ⌝ }
-    ensures { λ r. ⌜ Collected (now (hits .exit)) («top_of» (blocksIn (now (image .entry)) (blocks .first)) (between (now (first .entry)) (now (last .entry)))) r ⌝ }
+// Top: the first block strictly around the range.
+pub fn first_around(image: &[u8], places: &[u32; 4096], blocks: Run, range: Range) -> Found
+    requires { ⌜ Asked (now image) (now places) blocks range ⌝ }
+    ensures { λ r. ⌜ foundNumbers r ≡ «top_of» (blocksIn (now (image .entry)) (blocks .first)) (numbers range) ⌝ }
 {
+    let width = records::width_of(blocks.first);
     let mut i = blocks.from;
     while i < blocks.until {
         let at = range_start(places, i);
-        if begins_after(image, at, first) {
-            return 0;
+        if !at_least_at(range.first, image, at, width) {
+            return Found::Nothing;
         }
-        if surrounds(image, at, first, last, true) {
-            hits[0] = i;
-            return 1;
+        if surrounds(image, at, width, range, true) {
+            return Found::At(i);
         }
         i += 1;
     }
-    0
+    Found::Nothing
 }
 
-// Down: the blocks strictly inside first to last, without those inside the last one kept.
+// Down: the blocks strictly inside the range, without those inside the last one kept.
 pub fn children(
     image: &[u8],
     places: &[u32; 4096],
     blocks: Run,
-    first: &[u8],
-    last: &[u8],
+    range: Range,
     hits: &mut [u32; 4096],
 ) -> usize
-    requires { ⌜ Asked (now image) (now places) blocks (now first) (now last) × (length (now hits) ≡ 4096) ⌝ }
-    ensures { λ r. ⌜ Collected (now (hits .exit)) («down_of» (blocksIn (now (image .entry)) (blocks .first)) (between (now (first .entry)) (now (last .entry)))) r ⌝ }
+    requires { ⌜ Asked (now image) (now places) blocks range × (length (now hits) ≡ 4096) ⌝ }
+    ensures { λ r. ⌜ Collected (now (hits .exit)) («down_of» (blocksIn (now (image .entry)) (blocks .first)) (numbers range)) r ⌝ }
 {
+    let width = records::width_of(blocks.first);
     let mut n: usize = 0;
     let mut kept: usize = 0;
     let mut i = blocks.from;
     while i < blocks.until {
         let at = range_start(places, i);
-        if begins_after(image, at, last) {
+        if !at_least_at(range.last, image, at, width) {
             return n;
         }
-        if keeps(image, at, first, last, n, kept) {
+        if keeps(image, at, width, range, n, kept) {
             hits[n] = i;
             n += 1;
             kept = at;
@@ -183,24 +169,19 @@ pub fn children(
     n
 }
 
-// Whether some block is strictly inside first to last.
-pub fn any_inside(
-    image: &[u8],
-    places: &[u32; 4096],
-    blocks: Run,
-    first: &[u8],
-    last: &[u8],
-) -> bool
-    requires { ⌜ Asked (now image) (now places) blocks (now first) (now last) ⌝ }
-    ensures { λ r. ⌜ r ≡ «any_of» (λ b. strictlyInside (b .range) (between (now (first .entry)) (now (last .entry)))) (blocksIn (now (image .entry)) (blocks .first)) ⌝ }
+// Whether some block is strictly inside the range.
+pub fn any_inside(image: &[u8], places: &[u32; 4096], blocks: Run, range: Range) -> bool
+    requires { ⌜ Asked (now image) (now places) blocks range ⌝ }
+    ensures { λ r. ⌜ r ≡ «any_of» (λ b. strictlyInside (b .range) (numbers range)) (blocksIn (now (image .entry)) (blocks .first)) ⌝ }
 {
+    let width = records::width_of(blocks.first);
     let mut i = blocks.from;
     while i < blocks.until {
         let start = range_start(places, i);
-        if begins_after(image, start, last) {
+        if !at_least_at(range.last, image, start, width) {
             return false;
         }
-        if strictly_inside(image, start, first, last) {
+        if strictly_inside(image, start, width, range) {
             return true;
         }
         i += 1;

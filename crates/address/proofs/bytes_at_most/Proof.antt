@@ -5,7 +5,7 @@ use lib.ListN.{length, drop}
 use native.Mathlib.Omega.{arith}
 use denote.Ref.{now}
 use Rattle.address.specs.Number.{atMost, Bytes}
-use Rattle.address.proofs.Words as words
+use Rattle.address.proofs.Parts as words
 use borrow.Author.Needs.{needs}
 use Rattle.address.proofs.bytes_at_most.Statement.{statement}
 use Rattle.address.proofs.bytes_at_most.Tie as tie

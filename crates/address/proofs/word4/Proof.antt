@@ -2,7 +2,7 @@
 use mathlib.Core.Path.{_∙_, ap}
 use native.Mathlib.Omega.{arith}
 use Rattle.address.specs.Words.{swap4Of}
-use Rattle.address.proofs.Words as words
+use Rattle.address.proofs.Pairs as words
 use borrow.Author.Needs.{needs}
 use Rattle.address.proofs.word4.Statement.{statement}
 use Rattle.address.proofs.word4.Tie as tie

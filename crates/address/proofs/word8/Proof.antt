@@ -1,5 +1,7 @@
 -- Two words of four digits are one of eight.
-use Rattle.address.proofs.Words as words
+use mathlib.Core.Path.{sym}
+use denote.Ref.{now}
+use Rattle.address.proofs.Digits.{cut}
 use borrow.Author.Needs.{needs}
 use Rattle.address.proofs.word8.Statement.{statement}
 use Rattle.address.proofs.word8.Tie as tie
@@ -20,7 +22,9 @@ add-result : tie.Need-add-result
 add-result c = search needs
 
 returns : tie.Need-returns
-returns c = rw (c .before .word4 .ensures .0, c .word42 .ensures .0) (words.eight _ _)
+returns c =
+    let s = c .before .before .before in
+    rw (c .before .word4 .ensures .0, c .word42 .ensures .0) (sym (cut (now (s .args .s)) (s .args .at) 4 4 (s .pre)))
 
 pub word8-spec : {M : Type 1} → statement M
 word8-spec =

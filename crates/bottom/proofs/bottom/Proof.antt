@@ -1,33 +1,29 @@
 -- `bottom::bottom` meets its contract.
 use mathlib.Core.Path.{refl}
 use borrow.Author.Tests.{not-true, not-false}
-use Rattle.scans.specs.Standing.{blocksIn, between}
 use Rattle.scans.proofs.Walks.{asked-accepted}
 use Rattle.bottom.proofs.Gathers.{reachable, gathered, numbered}
 use Rattle.bottom.proofs.Picks.{bottom-some, bottom-none}
+use borrow.Author.Needs.{needs}
 use Rattle.bottom.proofs.bottom.Statement.{statement}
 use Rattle.bottom.proofs.bottom.Tie as tie
 
 any-inside-requires : tie.Need-any-inside-requires
-any-inside-requires c κs = c .before .before .before .pre .0
+any-inside-requires c κs = search needs
 
 returns : tie.Need-returns
-returns c =
-    let a = c .before .before .before .before .before .args in
-    bottom-none (blocksIn (a .image .now) (a .blocks .first)) (asked-accepted (c .before .before .before .before .before .pre .0)) (between (a .first .now) (a .last .now)) (c .before .any-inside .ensures) (not-true _ (c .if1 .taken)) (c .before .before .before .before .before .pre .1)
+returns c = bottom-none _ (asked-accepted (c .before .before .before .pre .0)) _ (c .before .any-inside .ensures) (not-true _ (c .if1 .taken)) (c .before .before .before .pre .1)
 
 gather-requires : tie.Need-gather-requires
-gather-requires c κs = (reachable (c .before .before .before .before .before .before .pre .0), refl)
+gather-requires c κs = (reachable (c .before .before .before .before .pre .0), refl)
 
 holders-requires : tie.Need-holders-requires
 holders-requires c κs =
-    let q = c .before .before .before .before .before .before .before .before .before .pre .0 in
-    (gathered q (c .before .before .gather .ensures), numbered q (c .before .before .gather .ensures), q .first-wide, q .last-wide, q .proper, c .before .before .before .before .before .before .before .before .before .pre .1)
+    let q = c .before .before .before .before .before .before .before .pre .0 in
+    (gathered q (c .before .before .gather .ensures), numbered q (c .before .before .gather .ensures), q .proper, c .before .before .before .before .before .before .before .pre .1)
 
 returns-2 : tie.Need-returns-2
-returns-2 c =
-    let a = c .before .before .before .before .before .before .before .before .before .before .args in
-    bottom-some (blocksIn (a .image .now) (a .blocks .first)) (asked-accepted (c .before .before .before .before .before .before .before .before .before .before .pre .0)) (between (a .first .now) (a .last .now)) (c .before .before .before .before .before .before .any-inside .ensures) (not-false _ (c .before .before .before .before .before .if1 .left)) (c .holders .ensures)
+returns-2 c = bottom-some _ (asked-accepted (c .before .before .before .before .before .before .before .before .pre .0)) _ (c .before .before .before .before .before .before .any-inside .ensures) (not-false _ (c .before .before .before .before .before .if1 .left)) (c .holders .ensures)
 
 pub bottom-spec : {M : Type 1} → statement M
 bottom-spec =

@@ -1,15 +1,14 @@
 -- `bottom::holders` meets its contract: what is found so far, followed by what the rest gives, is the answer.
 use Prim.Native.Nat.{_+_, _-_, _≤_}
-use mathlib.Core.Bool.{Bool}
 use mathlib.Core.Logic.{⊎-elim}
 use mathlib.Core.Path.{_≡_, refl, sym, _∙_}
 use mathlib.Core.List.{_++_, append-nil}
 use native.Mathlib.Omega.{arith}
 use lib.ListN.{length, take, drop}
-use Rattle.blocks.specs.Blocks.{Block}
+use Rattle.address.specs.Address.{numbers}
 use Rattle.blocks.specs.Relations.{select}
 use Rattle.blocks.specs.Scans.{gapIn}
-use Rattle.scans.specs.Standing.{blocksIn, between}
+use Rattle.scans.specs.Standing.{blocksIn}
 use Rattle.bottom.proofs.Tests.{none-left}
 use Rattle.bottom.proofs.Picks.{pick, pass, select-nil}
 use borrow.Author.Needs.{needs}
@@ -17,67 +16,70 @@ use Rattle.bottom.proofs.holders.Statement.{statement}
 use Rattle.bottom.proofs.holders.Tie as tie
 
 abbrev Inv-loop : tie.InvT-loop
-Inv-loop image family from starts n first last hits₀ links m₀ i₀ hits m i =
+Inv-loop image family from starts n range hits₀ links m₀ i₀ hits m i =
     (i ≤ n)
     × (m ≤ i)
     × (length hits ≡ 4096)
-    × (take m hits ++ select (λ b. gapIn (blocksIn image family) (between first last) (b .range)) (drop i (blocksIn image family))
-    ≡ select (λ b. gapIn (blocksIn image family) (between first last) (b .range)) (blocksIn image family))
+    × (take m hits ++ select (λ b. gapIn (blocksIn image family) (numbers range) (b .range)) (drop i (blocksIn image family))
+    ≡ select (λ b. gapIn (blocksIn image family) (numbers range) (b .range)) (blocksIn image family))
 
 abbrev μ-loop : tie.MeasureT-loop
-μ-loop image family from starts n first last hits₀ links m₀ i₀ hits m i = n - i
+μ-loop image family from starts n range hits₀ links m₀ i₀ hits m i = n - i
 
 links-of-requires : tie.Need-links-of-requires Inv-loop μ-loop
-links-of-requires c κs = c .before .before .before .pre .0
+links-of-requires c κs = c .before .pre .0
 
 loop-holds : tie.Need-loop-holds Inv-loop μ-loop
-loop-holds c = (omega arith, omega arith, c .before .before .before .before .pre .5, refl)
+loop-holds c = (omega arith, omega arith, c .before .before .pre .3, refl)
 
 leaves-gap-requires : tie.Need-leaves-gap-requires Inv-loop μ-loop
-leaves-gap-requires c κs = record { gathered = c .before .before .before .before .before .before .before .pre .0; linked = c .before .before .before .links-of .ensures; known = c .before .loop-test .taken; first-wide = c .before .before .before .before .before .before .before .pre .2; last-wide = c .before .before .before .before .before .before .before .pre .3; proper = c .before .before .before .before .before .before .before .pre .4 }
+leaves-gap-requires c κs = record { gathered = c .before .before .before .before .before .pre .0; linked = c .before .before .before .links-of .ensures; known = c .before .loop-test .taken; proper = c .before .before .before .before .before .pre .2 }
 
 cast-hits : tie.Need-cast-hits Inv-loop μ-loop
-cast-hits c = let few = c .before .before .before .before .before .before .before .before .before .pre .0 .few in search needs
+cast-hits c = let few = c .before .before .before .before .before .before .before .pre .0 .few in search needs
 
 add-hits : tie.Need-add-hits Inv-loop μ-loop
-add-hits c = let few = c .before .before .before .before .before .before .before .before .before .pre .1 .few in search needs
+add-hits c = let few = c .before .before .before .before .before .before .before .pre .1 .few in search needs
 
 mul-hits : tie.Need-mul-hits Inv-loop μ-loop
-mul-hits c = let few = c .before .before .before .before .before .before .before .before .before .pre .0 .few in search needs
+mul-hits c = let few = c .before .before .before .before .before .before .before .pre .0 .few in search needs
 
 element-write-hits : tie.Need-element-write-hits Inv-loop μ-loop
-element-write-hits c = let few = c .before .before .before .before .before .before .before .before .before .pre .0 .few in search needs
+element-write-hits c = let few = c .before .before .before .before .before .before .before .pre .0 .few in search needs
 
 add-m : tie.Need-add-m Inv-loop μ-loop
-add-m c = let few = c .before .before .before .before .before .before .before .before .before .pre .0 .few in search needs
+add-m c = let few = c .before .before .before .before .before .before .before .pre .0 .few in search needs
 
 add-i : tie.Need-add-i Inv-loop μ-loop
-add-i c = let few = c .before .before .before .before .before .before .before .before .before .pre .0 .few in search needs
+add-i c = let few = c .before .before .before .before .before .before .before .pre .0 .few in search needs
 
 loop-less : tie.Need-loop-less Inv-loop μ-loop
 loop-less c = search needs
 
 loop-again : tie.Need-loop-again Inv-loop μ-loop
 loop-again c =
-    let few = c .before .before .before .before .before .before .before .before .before .pre .0 .few in
+    let p = c .before .before .before .before .before .before .before .pre in
+    let few = p .0 .few in
     let l = c .before .before .before .before .loop in
+    let t = c .before .before .before .loop-test .taken in
     ⊎-elim
     (λ w.
-    let r = pick (c .before .before .before .before .before .before .before .before .before .pre .0) (l .i) (c .before .before .before .loop-test .taken) (λ b. gapIn (blocksIn (c .before .before .before .before .before .before .before .before .before .args .image .now) (c .before .before .before .before .before .before .before .before .before .args .family)) (between (c .before .before .before .before .before .before .before .before .before .args .first .now) (c .before .before .before .before .before .before .before .before .before .args .last .now)) (b .range)) (c .before .leaves-gap .ensures) (l .hits) (l .m) (l .inv .2) (l .inv .3) (w .0 .taken) (omega arith) (c .before .before .before .before .before .before .before .before .before .args .from + l .i) (c .before .before .before .before .before .before .before .before .before .pre .1 .number (l .i) (c .before .before .before .loop-test .taken)) (w .1) (w .2) in
+    let r = pick (p .0) (l .i) t _ (c .before .leaves-gap .ensures) (l .hits) (l .m) (l .inv .2) (l .inv .3) (w .0 .taken) (omega arith) _ (p .1 .number (l .i) t) (w .1) (w .2) in
     (omega arith, omega arith, r .0, r .1))
-    (λ w. let r = pass (c .before .before .before .before .before .before .before .before .before .pre .0) (l .i) (c .before .before .before .loop-test .taken) (λ b. gapIn (blocksIn (c .before .before .before .before .before .before .before .before .before .args .image .now) (c .before .before .before .before .before .before .before .before .before .args .family)) (between (c .before .before .before .before .before .before .before .before .before .args .first .now) (c .before .before .before .before .before .before .before .before .before .args .last .now)) (b .range)) (c .before .leaves-gap .ensures) (l .hits) (l .m) (l .inv .2) (l .inv .3) (w .0 .left) (w .1) (w .2) in (omega arith, omega arith, r .0, r .1))
+    (λ w.
+    let r = pass (p .0) (l .i) t _ (c .before .leaves-gap .ensures) (l .hits) (l .m) (l .inv .2) (l .inv .3) (w .0 .left) (w .1) (w .2) in
+    (omega arith, omega arith, r .0, r .1))
     (c .if1 .came)
 
 returns : tie.Need-returns Inv-loop μ-loop
 returns c =
-    let a = c .before .before .before .before .before .before .args in
-    let few = c .before .before .before .before .before .before .pre .0 .few in
+    let p = c .before .before .before .before .pre in
+    let few = p .0 .few in
     let l = c .before .loop in
-    let test : Block → Bool = λ b. gapIn (blocksIn (a .image .now) (a .family)) (between (a .first .now) (a .last .now)) (b .range) in
     record {
       full = l .inv .2;
       few = omega arith;
-      same = sym (append-nil (take (l .m) (l .hits))) ∙ (rw (none-left (c .before .before .before .before .before .before .pre .0) (l .i) (c .loop-test .left), select-nil test) at (l .inv .3));
+      same = sym (append-nil (take (l .m) (l .hits))) ∙ (rw (none-left (p .0) (l .i) (c .loop-test .left), select-nil (λ b. gapIn (blocksIn (c .before .before .before .before .args .image .now) (c .before .before .before .before .args .family)) (numbers (c .before .before .before .before .args .range)) (b .range))) at (l .inv .3));
     }
 
 pub holders-spec : {M : Type 1} → statement M

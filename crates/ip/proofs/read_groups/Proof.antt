@@ -1,5 +1,6 @@
 -- `read_groups` reads the groups: the n bytes read, in front of the groups of the pieces left, are the groups of s.
 use Prim.Native.Nat.{_≤_, _+_}
+use Prim.Native.Char.{code}
 use mathlib.Core.Path.{_≡_, refl, sym, _∙_}
 use native.Mathlib.Omega.{arith}
 use lib.Seq.{length-take-le}
@@ -17,8 +18,8 @@ use Rattle.ip.proofs.read_groups.Tie as tie
 
 abbrev Inv-loop : tie.InvT-loop
 Inv-loop s tail bytes₀ n₀ t₀ j₀ bytes n t j =
-    (n ≤ 16) × (length bytes ≡ 16) × (length t ≤ length s) × FirstPiece 58 t j
-    × (prefixed (take n bytes) (groups tail (split 58 t)) ≡ groups tail (split 58 s))
+    (n ≤ 16) × (length bytes ≡ 16) × (length t ≤ length s) × FirstPiece (code ":") t j
+    × (prefixed (take n bytes) (groups tail (split (code ":") t)) ≡ groups tail (split (code ":") s))
 
 abbrev μ-loop : tie.MeasureT-loop
 μ-loop s tail bytes₀ n₀ t₀ j₀ bytes n t j = length t

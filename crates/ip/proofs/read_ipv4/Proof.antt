@@ -1,5 +1,6 @@
 -- `read_ipv4` is `ipv4`: the n octets read, in front of those of the pieces left, are the octets of s.
 use Prim.Native.Nat.{_+_, _≤_, _-_}
+use Prim.Native.Char.{code}
 use mathlib.Core.Path.{_≡_, refl, sym, _∙_}
 use native.Mathlib.Omega.{arith}
 use lib.ListN.{length-drop, length, take, length-set}
@@ -17,7 +18,7 @@ use Rattle.ip.proofs.read_ipv4.Tie as tie
 
 abbrev Inv-loop : tie.InvT-loop
 Inv-loop s bytes₀ t₀ n₀ bytes t n =
-    (n ≤ 4) × (length bytes ≡ 4) × (prefixed (take n bytes) (octets (split 46 t)) ≡ octets (split 46 s)) × (length t ≤ length s)
+    (n ≤ 4) × (length bytes ≡ 4) × (prefixed (take n bytes) (octets (split (code ".") t)) ≡ octets (split (code ".") s)) × (length t ≤ length s)
 
 abbrev μ-loop : tie.MeasureT-loop
 μ-loop s bytes₀ t₀ n₀ bytes t n = 4 - n

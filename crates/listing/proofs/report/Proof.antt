@@ -1,29 +1,32 @@
 -- `listing::report` meets its contract: after i turns the list is the first i hits and its own rest.
+-- How many turns there are, all of the hits or none, says the test before the loop.
 use Prim.Native.Nat.{_≤_, _-_}
-use mathlib.Core.Path.{_≡_, _∙_}
+use mathlib.Core.Logic.{⊎-elim}
+use mathlib.Core.Path.{_≡_, refl, _∙_}
 use mathlib.Core.List.{_++_}
 use native.Mathlib.Omega.{arith}
 use lib.ListN.{length, take, drop, length-set}
 use Rattle.listing.proofs.Replies.{copied-next, full-reply, done-reply}
+use denote.Ref.{now}
 use borrow.Author.Needs.{needs}
 use Rattle.listing.proofs.report.Statement.{statement}
 use Rattle.listing.proofs.report.Tie as tie
 
 abbrev Inv-loop : tie.InvT-loop
-Inv-loop hits list₀ need room i₀ list i =
-    (need ≡ length hits) × (i ≤ length hits) × (length hits ≤ length list₀) × (length list ≡ length list₀) × (list ≡ take i hits ++ drop i list₀)
+Inv-loop hits list₀ need room written i₀ list i =
+    (i ≤ written) × (written ≤ length hits) × (written ≤ length list₀) × (length list ≡ length list₀) × (list ≡ take i hits ++ drop i list₀)
 
 abbrev μ-loop : tie.MeasureT-loop
-μ-loop hits list₀ need room i₀ list i = length hits - i
-
-cast-t7 : tie.Need-cast-t7 Inv-loop μ-loop
-cast-t7 c = search needs
-
-returns : tie.Need-returns Inv-loop μ-loop
-returns c = full-reply (c .before .args .hits .now) (c .before .args .list .now) (c .if1 .taken)
+μ-loop hits list₀ need room written i₀ list i = written - i
 
 loop-holds : tie.Need-loop-holds Inv-loop μ-loop
-loop-holds c = search needs
+loop-holds c = (
+  omega arith,
+  ⊎-elim (λ w. omega arith) (λ w. omega arith) (c .if1 .came),
+  ⊎-elim (λ w. omega arith) (λ w. omega arith) (c .if1 .came),
+  refl,
+  refl,
+)
 
 mul-list : tie.Need-mul-list Inv-loop μ-loop
 mul-list c = search needs
@@ -45,22 +48,38 @@ loop-less c = search needs
 
 loop-again : tie.Need-loop-again Inv-loop μ-loop
 loop-again c =
+    let a = c .before .before .before .before .args in
     let l = c .before .before .loop in (
-      l .inv .0,
       omega arith,
+      l .inv .1,
       l .inv .2,
       length-set (l .list) (l .i) _ ∙ l .inv .3,
-      rw (l .inv .4) (copied-next (c .before .before .before .before .args .hits .now) (c .before .before .before .before .args .list .now) (l .i) (omega arith) (l .inv .2)),
+      rw (l .inv .4) (copied-next (now (a .hits)) (now (a .list)) (l .i) (omega arith) (omega arith)),
     )
 
-cast-t14 : tie.Need-cast-t14 Inv-loop μ-loop
-cast-t14 c = search needs
+cast-t15 : tie.Need-cast-t15 Inv-loop μ-loop
+cast-t15 c = search needs
 
 same-length : tie.Need-same-length Inv-loop μ-loop
 same-length c = search needs
 
+returns : tie.Need-returns Inv-loop μ-loop
+returns c =
+    let a = c .before .before .before .before .args in
+    let l = c .before .before .loop in
+    full-reply (now (a .hits)) (now (a .list)) (l .i) (c .if2 .taken) (⊎-elim (λ w. omega arith) (λ w. omega arith) (c .before .before .before .if1 .came)) (l .inv .4)
+
+cast-t16 : tie.Need-cast-t16 Inv-loop μ-loop
+cast-t16 c = search needs
+
+same-length-2 : tie.Need-same-length-2 Inv-loop μ-loop
+same-length-2 c = search needs
+
 returns-2 : tie.Need-returns-2 Inv-loop μ-loop
-returns-2 c = done-reply (c .before .before .before .args .hits .now) (c .before .before .before .args .list .now) (c .before .loop .i) (c .before .loop .inv .2) (omega arith) (c .before .loop .inv .4)
+returns-2 c =
+    let a = c .before .before .before .before .args in
+    let l = c .before .before .loop in
+    done-reply (now (a .hits)) (now (a .list)) (l .i) (c .if2 .left) (⊎-elim (λ w. omega arith) (λ w. omega arith) (c .before .before .before .if1 .came)) (l .inv .4)
 
 pub report-spec : {M : Type 1} → statement M
 report-spec =
@@ -68,8 +87,6 @@ report-spec =
     (tie.spec
     Inv-loop
     μ-loop
-    cast-t7
-    returns
     loop-holds
     mul-list
     shared-slice-read-list
@@ -78,6 +95,9 @@ report-spec =
     add-i
     loop-less
     loop-again
-    cast-t14
+    cast-t15
     same-length
+    returns
+    cast-t16
+    same-length-2
     returns-2)

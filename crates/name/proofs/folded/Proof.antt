@@ -1,12 +1,16 @@
 -- `folded`: by whether the byte is a capital; a capital's small letter is a byte.
+use Prim.Native.Char.{code}
 use native.Mathlib.Omega.{arith}
 use Rattle.name.specs.Host.{fold}
-use Rattle.pieces.proofs.Tests.{within-high}
+use Rattle.pieces.proofs.Tests.{within-low, within-high}
 use Rattle.name.proofs.folded.Statement.{statement}
 use Rattle.name.proofs.folded.Tie as tie
 
+sub-result : tie.Need-sub-result
+sub-result c = within-low (code "A") (code "Z") _ (c .if1 .taken)
+
 add-result : tie.Need-add-result
-add-result c = omega (arith, within-high 0x41 0x5A (c .before .args .c) (c .if1 .taken))
+add-result c = omega (arith, within-high (code "A") (code "Z") (c .before .args .c) (c .if1 .taken))
 
 returns : tie.Need-returns
 unfolding fold
@@ -17,4 +21,4 @@ unfolding fold
 returns-2 c = rw (c .if1 .left)
 
 pub folded-spec : {M : Type 1} → statement M
-folded-spec = tie.close (tie.spec add-result returns returns-2)
+folded-spec = tie.close (tie.spec sub-result add-result returns returns-2)

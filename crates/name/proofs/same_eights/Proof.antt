@@ -6,7 +6,7 @@ use lib.ListN.{take}
 use denote.Ref.{now}
 use borrow.Author.Needs.{needs}
 use Rattle.address.specs.Number.{Bytes}
-use Rattle.address.proofs.Words.{word-same}
+use Rattle.address.proofs.Parts.{word-same}
 use Rattle.name.proofs.same_eights.Statement.{statement}
 use Rattle.name.proofs.same_eights.Tie as tie
 

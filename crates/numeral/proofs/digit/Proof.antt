@@ -1,4 +1,5 @@
 -- `digit` is `digitValue`: the three ranges are tested in its order.
+use Prim.Native.Char.{code}
 use native.Mathlib.Omega.{arith}
 use borrow.Author.Needs.{needs}
 use Rattle.pieces.proofs.Tests.{within-low}
@@ -10,7 +11,7 @@ between-requires : tie.Need-between-requires
 between-requires c κs = search needs
 
 sub-result : tie.Need-sub-result
-sub-result c = within-low 48 57 _ (cc)
+sub-result c = within-low (code "0") (code "9") _ (cc)
 
 returns : tie.Need-returns
 unfolding digitValue
@@ -20,7 +21,10 @@ between-requires-2 : tie.Need-between-requires-2
 between-requires-2 c κs = search needs
 
 sub-result-2 : tie.Need-sub-result-2
-sub-result-2 c = omega (arith, within-low 65 70 (c .before .before .before .before .args .c) (cc))
+sub-result-2 c = omega (arith, within-low (code "A") (code "F") (c .before .before .before .before .args .c) (cc))
+
+add-result : tie.Need-add-result
+add-result c = search needs
 
 returns-2 : tie.Need-returns-2
 unfolding digitValue
@@ -30,7 +34,10 @@ between-requires-3 : tie.Need-between-requires-3
 between-requires-3 c κs = search needs
 
 sub-result-3 : tie.Need-sub-result-3
-sub-result-3 c = omega (arith, within-low 97 102 (c .before .before .before .before .before .before .args .c) (cc))
+sub-result-3 c = omega (arith, within-low (code "a") (code "f") (c .before .before .before .before .before .before .args .c) (cc))
+
+add-result-2 : tie.Need-add-result-2
+add-result-2 c = search needs
 
 returns-3 : tie.Need-returns-3
 unfolding digitValue
@@ -38,7 +45,7 @@ returns-3 c = rw (← (c .before .before .before .before .before .between .ensur
 
 returns-4 : tie.Need-returns-4
 unfolding digitValue
-returns-4 c = cc
+returns-4 c = rw (← (c .before .before .before .before .before .between .ensures), c .before .before .before .before .if1 .left, ← (c .before .before .before .between2 .ensures), c .before .before .if2 .left, ← (c .before .between3 .ensures), c .if3 .left)
 
 pub digit-spec : {M : Type 1} → statement M
 digit-spec =
@@ -49,8 +56,10 @@ digit-spec =
     returns
     between-requires-2
     sub-result-2
+    add-result
     returns-2
     between-requires-3
     sub-result-3
+    add-result-2
     returns-3
     returns-4)

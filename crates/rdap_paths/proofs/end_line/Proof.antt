@@ -1,9 +1,12 @@
--- The line's first bytes are as long as the test bounds them.
+-- The line's first bytes are as long as the test bounds them, and the buffer has room for an output line.
 use mathlib.Core.Path.{sym}
 use lib.Seq.{length-take-le}
 use borrow.Author.Needs.{needs}
 use Rattle.rdap_paths.proofs.end_line.Statement.{statement}
 use Rattle.rdap_paths.proofs.end_line.Tie as tie
+
+make-room-requires : tie.Need-make-room-requires
+make-room-requires c κs = search needs
 
 slice-aggregate-put-answer : tie.Need-slice-aggregate-put-answer
 slice-aggregate-put-answer c = sym (length-take-le _ _ (c .before .if1 .taken))
@@ -19,4 +22,5 @@ returns-2 c = search needs
 
 pub end-line-spec : {M : Type 1} → statement M
 end-line-spec =
-    tie.close (tie.spec slice-aggregate-put-answer put-answer-requires returns returns-2)
+    tie.close
+    (tie.spec make-room-requires slice-aggregate-put-answer put-answer-requires returns returns-2)

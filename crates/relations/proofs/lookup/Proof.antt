@@ -1,5 +1,4 @@
--- `relations::lookup` meets its contract: what was collected is reported.
-use Rattle.listing.proofs.Reports.{in-hits, as-many, few-reported, reported}
+-- `relations::lookup` meets its contract: what was found is reported.
 use borrow.Author.Needs.{needs}
 use Rattle.relations.proofs.lookup.Statement.{statement}
 use Rattle.relations.proofs.lookup.Tie as tie
@@ -7,28 +6,14 @@ use Rattle.relations.proofs.lookup.Tie as tie
 last-around-requires : tie.Need-last-around-requires
 last-around-requires c κs = search needs
 
-array-share-prefix-hits : tie.Need-array-share-prefix-hits
-array-share-prefix-hits c = in-hits (c .last-around .ensures)
-
-slice-aggregate-report : tie.Need-slice-aggregate-report
-slice-aggregate-report c = as-many (c .before .last-around .ensures)
-
-report-requires : tie.Need-report-requires
-report-requires c κs = few-reported (c .before .before .last-around .ensures)
+report-found-requires : tie.Need-report-found-requires
+report-found-requires c κs = search needs
 
 same-length : tie.Need-same-length
 same-length c = search needs
 
 returns : tie.Need-returns
-returns c = reported (c .before .before .before .before .before .last-around .ensures) (c .before .before .report .ensures)
+returns c = rw (← c .before .before .before .before .last-around .ensures) (c .before .before .report-found .ensures)
 
 pub lookup-spec : {M : Type 1} → statement M
-lookup-spec =
-    tie.close
-    (tie.spec
-    last-around-requires
-    array-share-prefix-hits
-    slice-aggregate-report
-    report-requires
-    same-length
-    returns)
+lookup-spec = tie.close (tie.spec last-around-requires report-found-requires same-length returns)

@@ -1,67 +1,82 @@
 -- `scans::children` meets its contract: what is found so far, followed by what the pass over the rest finds, is the answer.
 use Prim.Native.Nat.{ℕ, _≤_, _<_, _-_, _+_, _*_}
+use native.Mathlib.Omega.{arith}
+use borrow.Author.Tests.{not-true}
 use mathlib.Core.Logic.{⊎-elim}
 use mathlib.Core.List.{_++_, append-nil}
 use mathlib.Core.Path.{_≡_, sym, ap, _∙_}
-use native.Mathlib.Omega.{arith}
 use lib.ListN.{length, take}
+use Rattle.address.specs.Address.{numbers}
 use Rattle.address.specs.Positions.{numberIn}
 use Rattle.blocks.specs.Relations.{down}
 use Rattle.blocks.specs.Scans.{downPass}
 use Rattle.blocks.proofs.Scans.{down-scan}
-use Rattle.scans.specs.Standing.{blocksIn, between}
+use Rattle.scans.specs.Standing.{blocksIn}
 use Rattle.scans.specs.Tests.{freeAfter}
-use Rattle.scans.proofs.Walks.{blocksLeft, run-start, run-end, within, comparable, asked-accepted, asked-few}
+use Rattle.scans.proofs.Walks.{blocksLeft, run-start, run-end, within, asked-accepted, asked-few, Here, comparable}
 use Rattle.scans.proofs.Turns.{down-stop, down-found, down-missed}
 use borrow.Author.Needs.{needs}
 use Rattle.scans.proofs.children.Statement.{statement}
 use Rattle.scans.proofs.children.Tie as tie
 
 abbrev Inv-loop : tie.InvT-loop
-Inv-loop image places blocks first last hits₀ n₀ kept₀ i₀ hits n kept i =
+Inv-loop image places blocks range hits₀ width n₀ kept₀ i₀ hits n kept i =
     (blocks .from ≤ i)
     × (i ≤ blocks .until)
     × (n ≤ i)
     × (length hits ≡ 4096)
-    × (0 < n → kept + 2 * length first ≤ length image)
-    × (take n hits ++ downPass (between first last) (freeAfter n (numberIn image (kept + length first) (length first))) (blocksLeft image (blocks .first) i)
-    ≡ down (blocksIn image (blocks .first)) (between first last))
+    × (0 < n → kept + 2 * width ≤ length image)
+    × (take n hits ++ downPass (numbers range) (freeAfter n (numberIn image (kept + width) width)) (blocksLeft image (blocks .first) i)
+    ≡ down (blocksIn image (blocks .first)) (numbers range))
 
 abbrev μ-loop : tie.MeasureT-loop
-μ-loop image places blocks first last hits₀ n₀ kept₀ i₀ hits n kept i = blocks .until - i
+μ-loop image places blocks range hits₀ width n₀ kept₀ i₀ hits n kept i = blocks .until - i
+
+-- the record of this turn
+here : (c : tie.After-range-start Inv-loop μ-loop) → let a = c .before .before .before .before .before .before .args in
+    Here (a .image .now) (a .places .now) (a .blocks) (a .range) (c .before .before .before .loop .i) (c .range-start .result) (c .before .before .before .before .width-of .result)
+here c =
+    let w = c .before .before .before .before .width-of .ensures .0 in
+    record { asked = c .before .before .before .before .before .before .pre .0; low = c .before .before .before .loop .inv .0; high = c .before .if1 .taken; start = c .range-start .ensures; wide = w }
+
+width-of-requires : tie.Need-width-of-requires Inv-loop μ-loop
+width-of-requires c κs = search needs
 
 loop-holds : tie.Need-loop-holds Inv-loop μ-loop
 loop-holds c =
-    let a = c .before .before .before .args in
-    let q = c .before .before .before .pre .0 in (
+    let q = c .before .before .pre .0 in (
       omega arith,
       q .selected .run-of .forward,
       omega arith,
-      c .before .before .before .pre .1,
+      c .before .before .pre .1,
       λ h. absurd (omega arith),
-      rw (run-start q) (sym (down-scan (blocksIn (a .image .now) (a .blocks .first)) (asked-accepted q) (between (a .first .now) (a .last .now)))),
+      rw (run-start q) (sym (down-scan _ (asked-accepted q) _)),
     )
 
 range-start-requires : tie.Need-range-start-requires Inv-loop μ-loop
-range-start-requires c κs = within (c .before .before .before .before .before .before .pre .0) (c .before .before .loop .inv .0) (c .if1 .taken)
+range-start-requires c κs = within (c .before .before .before .before .before .pre .0) (c .before .before .loop .inv .0) (c .if1 .taken)
 
-begins-after-requires : tie.Need-begins-after-requires Inv-loop μ-loop
-begins-after-requires c κs = let k = comparable (c .before .before .before .before .before .before .before .pre .0) (c .before .before .before .loop .inv .0) (c .before .if1 .taken) (c .range-start .ensures) in rw (k .same) (k .wide, k .fits)
+at-least-at-requires : tie.Need-at-least-at-requires Inv-loop μ-loop
+at-least-at-requires c κs = let k = comparable (here c) in (k .wide, omega (arith, k .fits))
 
 returns : tie.Need-returns Inv-loop μ-loop
 returns c =
     let l = c .before .before .before .before .before .loop in
-    let k = asked-few (c .before .before .before .before .before .before .before .before .before .pre .0) in
-    record { full = l .inv .3; few = omega arith; same = sym (append-nil (take (l .n) (l .hits))) ∙ (rw (down-stop (c .before .before .before .before .before .before .before .before .before .pre .0) (c .before .before .before .before .before .loop .inv .0) (c .before .before .before .if1 .taken) (c .before .before .range-start .ensures) (c .before .begins-after .ensures) (c .if2 .taken) (freeAfter (l .n) (numberIn (c .before .before .before .before .before .before .before .before .before .args .image .now) (c .before .before .before .before .before .loop .kept + length (c .before .before .before .before .before .before .before .before .before .args .first .now)) (length (c .before .before .before .before .before .before .before .before .before .args .first .now))))) at (l .inv .5)) }
+    let k = asked-few (c .before .before .before .before .before .before .before .before .pre .0) in
+    record {
+      full = l .inv .3;
+      few = omega arith;
+      same = sym (append-nil (take (l .n) (l .hits))) ∙ (rw (down-stop (here (c .before .before)) (c .before .at-least-at .ensures) (not-true _ (c .if2 .taken)) (freeAfter (l .n) (numberIn (c .before .before .before .before .before .before .before .before .args .image .now) (l .kept + c .before .before .before .before .before .before .width-of .result) (c .before .before .before .before .before .before .width-of .result)))) at (l .inv .5));
+    }
 
 keeps-requires : tie.Need-keeps-requires Inv-loop μ-loop
-keeps-requires c κs = (comparable (c .before .before .before .before .before .before .before .before .before .pre .0) (c .before .before .before .before .before .loop .inv .0) (c .before .before .before .if1 .taken) (c .before .before .range-start .ensures), c .before .before .before .before .before .loop .inv .4)
+keeps-requires c κs = (comparable (here (c .before .before)), c .before .before .before .before .before .loop .inv .4)
 
 mul-hits : tie.Need-mul-hits Inv-loop μ-loop
-mul-hits c = let k = asked-few (c .before .before .before .before .before .before .before .before .before .before .before .pre .0) in search needs
+mul-hits c = let k = asked-few (c .before .before .before .before .before .before .before .before .before .before .pre .0) in search needs
 
 element-write-hits : tie.Need-element-write-hits Inv-loop μ-loop
-element-write-hits c = let k = asked-few (c .before .before .before .before .before .before .before .before .before .before .before .pre .0) in search needs
+element-write-hits c = let k = asked-few (c .before .before .before .before .before .before .before .before .before .before .pre .0) in search needs
 
 add-n : tie.Need-add-n Inv-loop μ-loop
 add-n c = search needs
@@ -75,21 +90,23 @@ loop-less c = search needs
 loop-again : tie.Need-loop-again Inv-loop μ-loop
 loop-again c =
     let l = c .before .before .before .before .before .before .before .loop in
-    let k = asked-few (c .before .before .before .before .before .before .before .before .before .before .before .pre .0) in
+    let k = asked-few (c .before .before .before .before .before .before .before .before .before .before .pre .0) in
+    let a = c .before .before .before .before .before .before .before .before .before .before .args in
+    let v = c .before .before .before .before .before .before .before .before .width-of .result in
     ⊎-elim
     (λ w.
-    let r = down-found (c .before .before .before .before .before .before .before .before .before .before .before .pre .0) (c .before .before .before .before .before .before .before .loop .inv .0) (c .before .before .before .before .before .if1 .taken) (c .before .before .before .before .range-start .ensures) (l .n) (numberIn (c .before .before .before .before .before .before .before .before .before .before .before .args .image .now) (c .before .before .before .before .before .before .before .loop .kept + length (c .before .before .before .before .before .before .before .before .before .before .before .args .first .now)) (length (c .before .before .before .before .before .before .before .before .before .before .before .args .first .now))) (c .before .keeps .ensures) (l .hits) (l .inv .3) (l .inv .5) (w .0 .taken) (omega arith) (w .1) (w .2) (ap (λ (p : ℕ). numberIn (c .before .before .before .before .before .before .before .before .before .before .before .args .image .now) (p + length (c .before .before .before .before .before .before .before .before .before .before .before .args .first .now)) (length (c .before .before .before .before .before .before .before .before .before .before .before .args .first .now))) (w .3)) in
-    (omega arith, omega arith, omega arith, r .0, λ h. rw (w .3) (comparable (c .before .before .before .before .before .before .before .before .before .before .before .pre .0) (c .before .before .before .before .before .before .before .loop .inv .0) (c .before .before .before .before .before .if1 .taken) (c .before .before .before .before .range-start .ensures) .fits), r .1))
+    let r = down-found (here (c .before .before .before .before)) (l .n) (numberIn (a .image .now) (l .kept + v) v) (c .before .keeps .ensures) (l .hits) (l .inv .3) (l .inv .5) (w .0 .taken) (omega arith) (w .1) (w .2) (ap (λ (p : ℕ). numberIn (a .image .now) (p + v) v) (w .3)) in
+    (omega arith, omega arith, omega arith, r .0, λ h. rw (w .3) (comparable (here (c .before .before .before .before)) .fits), r .1))
     (λ w.
-    let r = down-missed (c .before .before .before .before .before .before .before .before .before .before .before .pre .0) (c .before .before .before .before .before .before .before .loop .inv .0) (c .before .before .before .before .before .if1 .taken) (c .before .before .before .before .range-start .ensures) (l .n) (numberIn (c .before .before .before .before .before .before .before .before .before .before .before .args .image .now) (c .before .before .before .before .before .before .before .loop .kept + length (c .before .before .before .before .before .before .before .before .before .before .before .args .first .now)) (length (c .before .before .before .before .before .before .before .before .before .before .before .args .first .now))) (c .before .keeps .ensures) (l .hits) (l .inv .3) (l .inv .5) (w .0 .left) (w .1) (w .2) (ap (λ (p : ℕ). numberIn (c .before .before .before .before .before .before .before .before .before .before .before .args .image .now) (p + length (c .before .before .before .before .before .before .before .before .before .before .before .args .first .now)) (length (c .before .before .before .before .before .before .before .before .before .before .before .args .first .now))) (w .3)) in
+    let r = down-missed (here (c .before .before .before .before)) (l .n) (numberIn (a .image .now) (l .kept + v) v) (c .before .keeps .ensures) (l .hits) (l .inv .3) (l .inv .5) (w .0 .left) (w .1) (w .2) (ap (λ (p : ℕ). numberIn (a .image .now) (p + v) v) (w .3)) in
     (omega arith, omega arith, omega arith, r .0, λ h. rw (w .3) (l .inv .4 (omega arith)), r .1))
     (c .if3 .came)
 
 returns-2 : tie.Need-returns-2 Inv-loop μ-loop
 returns-2 c =
     let l = c .before .before .loop in
-    let k = asked-few (c .before .before .before .before .before .before .pre .0) in
-    record { full = l .inv .3; few = omega arith; same = sym (append-nil (take (l .n) (l .hits))) ∙ (rw (run-end (c .before .before .before .before .before .before .pre .0) (l .i) (c .if1 .left) (l .inv .1)) at (l .inv .5)) }
+    let k = asked-few (c .before .before .before .before .before .pre .0) in
+    record { full = l .inv .3; few = omega arith; same = sym (append-nil (take (l .n) (l .hits))) ∙ (rw (run-end (c .before .before .before .before .before .pre .0) (l .i) (c .if1 .left) (l .inv .1)) at (l .inv .5)) }
 
 pub children-spec : {M : Type 1} → statement M
 children-spec =
@@ -97,9 +114,10 @@ children-spec =
     (tie.spec
     Inv-loop
     μ-loop
+    width-of-requires
     loop-holds
     range-start-requires
-    begins-after-requires
+    at-least-at-requires
     returns
     keeps-requires
     mul-hits

@@ -1,66 +1,60 @@
 -- `scans::first_around` meets its contract: the pass over the rest of the run gives the answer.
 use Prim.Native.Nat.{_≤_, _-_}
+use native.Mathlib.Omega.{arith}
+use borrow.Author.Tests.{not-true, not-false}
 use mathlib.Core.Bool.{true}
 use mathlib.Core.Path.{_≡_, sym, _∙_}
-use native.Mathlib.Omega.{arith}
-use lib.ListN.{length, length-set}
+use Rattle.address.specs.Address.{numbers}
 use Rattle.blocks.specs.Relations.{top}
 use Rattle.blocks.specs.Scans.{firstPassing}
 use Rattle.blocks.proofs.Scans.{top-scan}
-use Rattle.listing.proofs.Emit.{only-one}
-use Rattle.scans.specs.Standing.{blocksIn, between}
+use Rattle.scans.specs.Standing.{blocksIn}
 use Rattle.scans.specs.Tests.{surroundsBy}
-use Rattle.scans.proofs.Walks.{blocksLeft, run-start, run-end, within, comparable, asked-accepted, asked-proper}
+use Rattle.scans.proofs.Walks.{blocksLeft, run-start, run-end, within, asked-accepted, asked-proper, Here, comparable}
 use Rattle.scans.proofs.Turns.{first-stop, not-after, first-found, first-missed}
 use borrow.Author.Needs.{needs}
 use Rattle.scans.proofs.first_around.Statement.{statement}
 use Rattle.scans.proofs.first_around.Tie as tie
 
 abbrev Inv-loop : tie.InvT-loop
-Inv-loop image places blocks first last hits₀ i₀ hits i =
+Inv-loop image places blocks range width i₀ i =
     (blocks .from ≤ i)
     × (i ≤ blocks .until)
-    × (length hits ≡ 4096)
-    × (firstPassing (λ b. surroundsBy true (b .range) (between first last)) (blocksLeft image (blocks .first) i)
-    ≡ top (blocksIn image (blocks .first)) (between first last))
+    × (firstPassing (λ b. surroundsBy true (b .range) (numbers range)) (blocksLeft image (blocks .first) i)
+    ≡ top (blocksIn image (blocks .first)) (numbers range))
 
 abbrev μ-loop : tie.MeasureT-loop
-μ-loop image places blocks first last hits₀ i₀ hits i = blocks .until - i
+μ-loop image places blocks range width i₀ i = blocks .until - i
+
+-- the record of this turn
+here : (c : tie.After-range-start Inv-loop μ-loop) → let a = c .before .before .before .before .before .before .args in
+    Here (a .image .now) (a .places .now) (a .blocks) (a .range) (c .before .before .before .loop .i) (c .range-start .result) (c .before .before .before .before .width-of .result)
+here c =
+    let w = c .before .before .before .before .width-of .ensures .0 in
+    record { asked = c .before .before .before .before .before .before .pre; low = c .before .before .before .loop .inv .0; high = c .before .if1 .taken; start = c .range-start .ensures; wide = w }
+
+width-of-requires : tie.Need-width-of-requires Inv-loop μ-loop
+width-of-requires c κs = search needs
 
 loop-holds : tie.Need-loop-holds Inv-loop μ-loop
 loop-holds c =
-    let a = c .before .before .before .args in
-    let q = c .before .before .before .pre .0 in (
-      omega arith,
-      q .selected .run-of .forward,
-      c .before .before .before .pre .1,
-      rw (run-start q) (sym (top-scan (blocksIn (a .image .now) (a .blocks .first)) (asked-accepted q) (between (a .first .now) (a .last .now)) (asked-proper q))),
-    )
+    let q = c .before .before .pre in
+    (omega arith, q .selected .run-of .forward, rw (run-start q) (sym (top-scan _ (asked-accepted q) _ (asked-proper q))))
 
 range-start-requires : tie.Need-range-start-requires Inv-loop μ-loop
-range-start-requires c κs = within (c .before .before .before .before .before .before .pre .0) (c .before .before .loop .inv .0) (c .if1 .taken)
+range-start-requires c κs = within (c .before .before .before .before .before .pre) (c .before .before .loop .inv .0) (c .if1 .taken)
 
-begins-after-requires : tie.Need-begins-after-requires Inv-loop μ-loop
-begins-after-requires c κs = let k = comparable (c .before .before .before .before .before .before .before .pre .0) (c .before .before .before .loop .inv .0) (c .before .if1 .taken) (c .range-start .ensures) in (k .wide, k .fits)
+at-least-at-requires : tie.Need-at-least-at-requires Inv-loop μ-loop
+at-least-at-requires c κs = let k = comparable (here c) in (k .wide, omega (arith, k .fits))
 
 returns : tie.Need-returns Inv-loop μ-loop
-returns c = let l = c .before .before .before .before .before .loop in record { full = l .inv .2; few = omega arith; same = sym (first-stop (c .before .before .before .before .before .before .before .before .before .pre .0) (c .before .before .before .before .before .loop .inv .0) (c .before .before .before .if1 .taken) (c .before .before .range-start .ensures) (c .before .begins-after .ensures) (c .if2 .taken) true) ∙ l .inv .3 }
+returns c = sym (first-stop (here (c .before .before)) (c .before .at-least-at .ensures) (not-true _ (c .if2 .taken)) true) ∙ c .before .before .before .before .before .loop .inv .2
 
 surrounds-requires : tie.Need-surrounds-requires Inv-loop μ-loop
-surrounds-requires c κs = not-after (c .before .before .before .before .before .before .before .before .before .pre .0) (c .before .before .before .before .before .loop .inv .0) (c .before .before .before .if1 .taken) (c .before .before .range-start .ensures) (c .before .begins-after .ensures) (c .if2 .left)
-
-element-write-hits : tie.Need-element-write-hits Inv-loop μ-loop
-element-write-hits c = search needs
+surrounds-requires c κs = let h = here (c .before .before) in (comparable h, not-after h (c .before .at-least-at .ensures) (not-false _ (c .if2 .left)))
 
 returns-2 : tie.Need-returns-2 Inv-loop μ-loop
-returns-2 c =
-    let l = c .before .before .before .before .before .before .before .loop in
-    let z = l .inv .2 in
-    record {
-      full = length-set (l .hits) 0 (l .i) ∙ z;
-      few = omega arith;
-      same = only-one (l .hits) (l .i) (omega arith) ∙ first-found (c .before .before .before .before .before .before .before .before .before .before .before .pre .0) (c .before .before .before .before .before .before .before .loop .inv .0) (c .before .before .before .before .before .if1 .taken) (c .before .before .before .before .range-start .ensures) true (c .before .surrounds .ensures) (c .if3 .taken) (l .inv .3);
-    }
+returns-2 c = first-found (here (c .before .before .before .before)) true (c .before .surrounds .ensures) (c .before .before .before .before .before .before .before .loop .inv .2) (c .if3 .taken)
 
 add-i : tie.Need-add-i Inv-loop μ-loop
 add-i c = search needs
@@ -69,14 +63,10 @@ loop-less : tie.Need-loop-less Inv-loop μ-loop
 loop-less c = search needs
 
 loop-again : tie.Need-loop-again Inv-loop μ-loop
-loop-again c =
-    let l = c .before .before .before .before .before .before .before .loop in
-    (omega arith, omega arith, l .inv .2, first-missed (c .before .before .before .before .before .before .before .before .before .before .before .pre .0) (c .before .before .before .before .before .before .before .loop .inv .0) (c .before .before .before .before .before .if1 .taken) (c .before .before .before .before .range-start .ensures) true (c .before .surrounds .ensures) (c .if3 .left) (l .inv .3))
+loop-again c = (omega arith, omega arith, first-missed (here (c .before .before .before .before)) true (c .before .surrounds .ensures) (c .before .before .before .before .before .before .before .loop .inv .2) (c .if3 .left))
 
 returns-3 : tie.Need-returns-3 Inv-loop μ-loop
-returns-3 c =
-    let l = c .before .before .loop in
-    record { full = l .inv .2; few = omega arith; same = rw (run-end (c .before .before .before .before .before .before .pre .0) (l .i) (c .if1 .left) (l .inv .1)) at (l .inv .3) }
+returns-3 c = rw (run-end (c .before .before .before .before .before .pre) (c .before .before .loop .i) (c .if1 .left) (c .before .before .loop .inv .1)) at (c .before .before .loop .inv .2)
 
 pub first-around-spec : {M : Type 1} → statement M
 first-around-spec =
@@ -84,12 +74,12 @@ first-around-spec =
     (tie.spec
     Inv-loop
     μ-loop
+    width-of-requires
     loop-holds
     range-start-requires
-    begins-after-requires
+    at-least-at-requires
     returns
     surrounds-requires
-    element-write-hits
     returns-2
     add-i
     loop-less

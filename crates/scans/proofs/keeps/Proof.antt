@@ -1,10 +1,6 @@
 -- `scans::keeps` meets its contract.
-use Prim.Native.Nat.{_+_}
 use native.Mathlib.Omega.{arith}
 use borrow.Author.Tests.{not-true, not-false}
-use lib.ListN.{length}
-use Rattle.address.specs.Positions.{numberIn, rangeIn}
-use Rattle.scans.specs.Standing.{between}
 use Rattle.scans.proofs.Cover.{keeps-no, keeps-first, keeps-later, positive}
 use borrow.Author.Needs.{needs}
 use Rattle.scans.proofs.keeps.Statement.{statement}
@@ -14,21 +10,27 @@ strictly-inside-requires : tie.Need-strictly-inside-requires
 strictly-inside-requires c κs = search needs
 
 returns : tie.Need-returns
-returns c = keeps-no (c .before .before .before .before .before .args .n) (numberIn (c .before .before .before .before .before .args .image .now) (c .before .before .before .before .before .args .kept + length (c .before .before .before .before .before .args .first .now)) (length (c .before .before .before .before .before .args .first .now))) (rangeIn (c .before .before .before .before .before .args .image .now) (c .before .before .before .before .before .args .at) (length (c .before .before .before .before .before .args .first .now))) (between (c .before .before .before .before .before .args .first .now) (c .before .before .before .before .before .args .last .now)) (c .before .strictly-inside .ensures) (not-true _ (c .if1 .taken))
+returns c = keeps-no _ _ (c .before .strictly-inside .ensures) _ (not-true _ (c .if1 .taken))
 
 returns-2 : tie.Need-returns-2
-returns-2 c = keeps-first (c .before .before .before .before .before .before .args .n) (numberIn (c .before .before .before .before .before .before .args .image .now) (c .before .before .before .before .before .before .args .kept + length (c .before .before .before .before .before .before .args .first .now)) (length (c .before .before .before .before .before .before .args .first .now))) (rangeIn (c .before .before .before .before .before .before .args .image .now) (c .before .before .before .before .before .before .args .at) (length (c .before .before .before .before .before .before .args .first .now))) (between (c .before .before .before .before .before .before .args .first .now) (c .before .before .before .before .before .before .args .last .now)) (c .before .before .strictly-inside .ensures) (not-false _ (c .before .if1 .left)) (c .if2 .taken)
+returns-2 c = keeps-first _ _ (c .before .before .strictly-inside .ensures) _ _ (not-false _ (c .before .if1 .left)) (c .if2 .taken)
 
 add-numbers-at-most : tie.Need-add-numbers-at-most
-add-numbers-at-most c = let h = c .before .before .before .before .before .before .pre .1 (positive (c .before .before .before .before .before .before .args .n) (c .if2 .left)) in record { fits = omega arith }
+add-numbers-at-most c = let h = c .before .before .before .before .pre .1 (positive _ (c .if2 .left)) in record { fits = omega arith }
 
 numbers-at-most-requires : tie.Need-numbers-at-most-requires
-numbers-at-most-requires c κs = let h = c .before .before .before .before .before .before .pre .1 (positive (c .before .before .before .before .before .before .args .n) (c .if2 .left)) in (c .before .before .before .before .before .before .pre .0 .wide, omega arith, omega arith)
+numbers-at-most-requires c κs = let h = c .before .before .before .before .pre .1 (positive _ (c .if2 .left)) in (c .before .before .before .before .pre .0 .wide, omega arith, omega arith)
 
 returns-3 : tie.Need-returns-3
-returns-3 c = keeps-later (c .before .before .before .before .before .before .before .args .n) (numberIn (c .before .before .before .before .before .before .before .args .image .now) (c .before .before .before .before .before .before .before .args .kept + length (c .before .before .before .before .before .before .before .args .first .now)) (length (c .before .before .before .before .before .before .before .args .first .now))) (rangeIn (c .before .before .before .before .before .before .before .args .image .now) (c .before .before .before .before .before .before .before .args .at) (length (c .before .before .before .before .before .before .before .args .first .now))) (between (c .before .before .before .before .before .before .before .args .first .now) (c .before .before .before .before .before .before .before .args .last .now)) (c .before .before .before .strictly-inside .ensures) (not-false _ (c .before .before .if1 .left)) (c .before .if2 .left) (c .numbers-at-most .ensures)
+returns-3 c = keeps-later _ _ (c .before .before .before .strictly-inside .ensures) _ _ (not-false _ (c .before .before .if1 .left)) (c .before .if2 .left) (c .numbers-at-most .ensures)
 
 pub keeps-spec : {M : Type 1} → statement M
 keeps-spec =
     tie.close
-    (tie.spec strictly-inside-requires returns returns-2 add-numbers-at-most numbers-at-most-requires returns-3)
+    (tie.spec
+    strictly-inside-requires
+    returns
+    returns-2
+    add-numbers-at-most
+    numbers-at-most-requires
+    returns-3)

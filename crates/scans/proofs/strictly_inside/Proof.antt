@@ -1,8 +1,5 @@
 -- `scans::strictly_inside` meets its contract: inside, and not the other way round.
 use borrow.Author.Tests.{not-true, not-false}
-use lib.ListN.{length}
-use Rattle.address.specs.Positions.{rangeIn}
-use Rattle.scans.specs.Standing.{between}
 use Rattle.scans.proofs.Cover.{inside-no, inside-yes}
 use borrow.Author.Needs.{needs}
 use Rattle.scans.proofs.strictly_inside.Statement.{statement}
@@ -12,13 +9,13 @@ inside-requires : tie.Need-inside-requires
 inside-requires c κs = search needs
 
 returns : tie.Need-returns
-returns c = inside-no (between (c .before .before .before .before .before .args .first .now) (c .before .before .before .before .before .args .last .now)) (rangeIn (c .before .before .before .before .before .args .image .now) (c .before .before .before .before .before .args .at) (length (c .before .before .before .before .before .args .first .now))) (c .before .inside .ensures) (not-true _ (c .if1 .taken))
+returns c = inside-no _ _ (c .before .inside .ensures) (not-true _ (c .if1 .taken))
 
 covers-requires : tie.Need-covers-requires
 covers-requires c κs = search needs
 
 returns-2 : tie.Need-returns-2
-returns-2 c = inside-yes (between (c .before .before .before .before .before .before .args .first .now) (c .before .before .before .before .before .before .args .last .now)) (rangeIn (c .before .before .before .before .before .before .args .image .now) (c .before .before .before .before .before .before .args .at) (length (c .before .before .before .before .before .before .args .first .now))) (c .before .before .inside .ensures) (not-false _ (c .before .if1 .left)) (c .covers .ensures)
+returns-2 c = inside-yes _ _ (c .before .before .inside .ensures) (not-false _ (c .before .if1 .left)) (c .covers .ensures)
 
 pub strictly-inside-spec : {M : Type 1} → statement M
 strictly-inside-spec = tie.close (tie.spec inside-requires returns covers-requires returns-2)

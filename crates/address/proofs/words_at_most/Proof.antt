@@ -1,0 +1,17 @@
+-- The theorem `order` for two digits to the base 2 ^ 64.
+use native.Mathlib.Omega.{arith}
+use Rattle.address.proofs.Pairs.{high-below, high-above, high-same}
+use Rattle.address.proofs.words_at_most.Statement.{statement}
+use Rattle.address.proofs.words_at_most.Tie as tie
+
+returns : tie.Need-returns
+returns c = high-below _ _ _ _ _ (omega arith) (omega arith) (omega arith) (omega arith) (omega arith)
+
+returns-2 : tie.Need-returns-2
+returns-2 c = high-above _ _ _ _ _ (omega arith) (omega arith) (omega arith) (omega arith) (omega arith)
+
+returns-3 : tie.Need-returns-3
+returns-3 c = high-same _ _ _ _ _ (omega arith) (omega arith) (omega arith) (omega arith) (omega arith) (omega arith)
+
+pub words-at-most-spec : {M : Type 1} → statement M
+words-at-most-spec = tie.close (tie.spec returns returns-2 returns-3)

@@ -1,0 +1,4 @@
+pub mod Digits
+pub mod Writing
+pub mod Lines
+pub mod Reading

@@ -1,0 +1,4 @@
+pub mod Line
+pub mod Writing
+pub mod Computing
+pub mod Examples

@@ -1,0 +1,97 @@
+// The output line of a path: its text is written to the start of a lent buffer.
+ghost use mathlib.Core.Path.{_≡_};
+ghost use Prim.Native.Nat.{_+_, _*_, _≤_};
+ghost use mathlib.Core.List.{[], _∷_, _++_};
+ghost use lib.ListN.{length, take, drop};
+ghost use Rattle.numeral.specs.Decimal.{decimalText};
+ghost use Rattle.rdap.specs.Calls.{answerOf, line};
+ghost use Rattle.rdap.specs.Answered.{replyOf};
+ghost use Rattle.lines.specs.Line.{following, spaced, lineText, Lined};
+ghost use Rattle.lines.specs.Writing.{Written, reportedOf};
+use rdap::Answer;
+
+// Bytes that every line fits into.
+pub const ROOM: usize = 45100;
+
+// The bytes of a slice.
+fn put_bytes(s: &[u8], out: &mut [u8])
+    requires { ⌜ length (now s) ≤ length (now out) ⌝ }
+    ensures { λ _. ⌜ now (out .exit) ≡ now (s .entry) ++ drop (length (now (s .entry))) (now (out .entry)) ⌝ }
+{
+    for i in 0..s.len() {
+        out[i] = s[i];
+    }
+}
+
+// A number in decimal digits.
+fn put_number(n: u32, out: &mut [u8]) -> usize
+    requires { ⌜ 10 ≤ length (now out) ⌝ }
+    ensures { λ r. ⌜ Written (decimalText n) (now (out .entry)) (now (out .exit)) r × (r ≤ 10) ⌝ }
+{
+    let mut text = [0u8; 20];
+    let k = io::decimal(n as u64, &mut text);
+    put_bytes(&text[..k], out);
+    k
+}
+
+// A space and a number.
+fn put_next(n: u32, out: &mut [u8]) -> usize
+    requires { ⌜ 11 ≤ length (now out) ⌝ }
+    ensures { λ r. ⌜ Written (following (n ∷ [])) (now (out .entry)) (now (out .exit)) r × (r ≤ 11) ⌝ }
+{
+    out[0] = b' ';
+    1 + put_number(n, &mut out[1..])
+}
+
+// A space and a number, for each.
+fn put_following(numbers: &[u32], out: &mut [u8]) -> usize
+    requires { ⌜ 11 * length (now numbers) ≤ length (now out) ⌝ }
+    ensures { λ r. ⌜ Written (following (now (numbers .entry))) (now (out .entry)) (now (out .exit)) r × (r ≤ 11 * length (now (numbers .entry))) ⌝ }
+{
+    let mut at: usize = 0;
+    for i in 0..numbers.len() {
+        at += put_next(numbers[i], &mut out[at..]);
+    }
+    at
+}
+
+// Status, reason, kind and count of an answer.
+fn put_head(a: Answer, out: &mut [u8]) -> usize
+    requires { ⌜ 43 ≤ length (now out) ⌝ }
+    ensures { λ r. ⌜ Written (spaced (line (replyOf a []))) (now (out .entry)) (now (out .exit)) r × (r ≤ 43) ⌝ }
+{
+    let kind = a.kind;
+    let numbers = [a.reason, rdap::kind_number(kind), a.count];
+    let at = put_number(a.status, out);
+    at + put_following(&numbers, &mut out[at..])
+}
+
+// The line of an answer that reports the first record numbers of the list, so many.
+fn put_line(a: Answer, list: &[u32], reported: usize, out: &mut [u8]) -> usize
+    requires { ⌜ (reported ≤ length (now list)) × (44 + 11 * reported ≤ length (now out)) ⌝ }
+    ensures { λ r. ⌜ Written (lineText (replyOf a (take reported (now (list .entry))))) (now (out .entry)) (now (out .exit)) r ⌝ }
+{
+    let mut at = put_head(a, out);
+    at += put_following(&list[..reported], &mut out[at..]);
+    out[at] = b'\n';
+    at + 1
+}
+
+// How many record numbers an answer reports.
+fn reported(a: Answer) -> u32
+    ensures { λ r. ⌜ r ≡ reportedOf a ⌝ }
+{
+    if a.reason == 0 { a.count } else { 0 }
+}
+
+// Answers a path from an image, and writes its line to the start of out, if that has room for every line. Gives the number of bytes written.
+pub fn put_answer(path: &[u8], image: &[u8], list: &mut [u32; 4096], out: &mut [u8]) -> usize
+    ensures { λ r. ⌜ Lined (answerOf (now (path .entry)) (now (image .entry)) 4096) (now (list .entry)) (now (list .exit)) (now (out .entry)) (now (out .exit)) r ⌝ }
+{
+    let a = rdap::answer(path, image, list);
+    if out.len() < ROOM {
+        return 0;
+    }
+    let n = reported(a) as usize;
+    put_line(a, list, n, out)
+}
