@@ -1,4 +1,4 @@
--- Addresses and numbers by their positions in a list of bytes.
+-- Serves contracts and proofs. Addresses and numbers by their positions in a list of bytes.
 use mathlib.Core.Path.{_≡_}
 use mathlib.Core.List.{List}
 use Prim.Native.Nat.{ℕ, _+_, _≤_}

@@ -1,4 +1,4 @@
--- The range of a prefix, at every width.
+-- The range of a prefix, at every width (S8.3).
 use Prim.Native.Nat.{ℕ, _+_, _-_, _^_, _%_}
 use mathlib.Core.Bool.{cond}
 use mathlib.Core.Option.{Option, none, some}

@@ -1,4 +1,4 @@
--- Bytes read together, in words of four and eight.
+-- Serves contracts and proofs. Bytes read together, in words of four and eight.
 use mathlib.Core.List.{[], _∷_}
 use Prim.Native.Nat.{ℕ, _+_, _*_, _/_, _%_}
 use Rattle.address.specs.Number.{valueFrom}

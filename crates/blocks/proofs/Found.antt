@@ -1,4 +1,4 @@
--- The answers in the words of document 01: of the blocks that cover one range, each covers the later ones, so the smallest is inside all and the largest around all.
+-- The answers in the words of S10.3: of the blocks that cover one range, each covers the later ones, so the smallest is inside all and the largest around all.
 use Prim.Native.Nat.{ℕ}
 use mathlib.Core.Bool.{Bool}
 use mathlib.Core.Logic.{_⊎_, inl, inr, ⊎-elim, _↔_}

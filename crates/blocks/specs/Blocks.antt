@@ -1,4 +1,4 @@
--- Registered blocks of one family (document 01, "Blocks and relations").
+-- Registered blocks of one family (S10.1).
 use Prim.Native.Nat.{ℕ, suc}
 use mathlib.Core.List.{List, [], _∷_}
 use lib.Dec.{eqb}

@@ -1,4 +1,4 @@
--- Bottom in the words of document 01, beside the test that computes it: "empty if no block is strictly inside; else every block that is
+-- Bottom in the words of S10.3, beside the test that computes it: "empty if no block is strictly inside; else every block that is
 -- the smallest one holding some address of the range". Proved in proofs/Bottom.antt for the blocks of every accepted family.
 use Prim.Native.Nat.{ℕ}
 use mathlib.Core.Logic.{_↔_}

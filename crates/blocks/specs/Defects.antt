@@ -1,4 +1,4 @@
--- The defect rules on the blocks of one tag, in image order (document 01, "The image").
+-- Serves contracts and proofs. The defect rules on the blocks of one tag, in image order (S5.1).
 use mathlib.Core.Bool.{Bool, true, not, _&&_}
 use mathlib.Core.List.{List, [], _∷_}
 use lib.Dec.{ltb}

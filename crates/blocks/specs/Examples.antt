@@ -1,4 +1,4 @@
--- Readings to keep out (document 01, "Errors to keep out"), on four blocks: 0 holds 1, 1 holds 2, and 3 is the rest of 0.
+-- Readings that are wrong (S13.5), on four blocks: 0 holds 1, 1 holds 2, and 3 is the rest of 0.
 use Prim.Native.Nat.{ℕ}
 use mathlib.Core.Path.{_≡_, refl}
 use mathlib.Core.List.{List, [], _∷_}

@@ -1,4 +1,4 @@
--- The answers of lookup, up, top, down and bottom in the words of document 01 ("Blocks and relations"), beside the tests that compute them.
+-- The answers of lookup, up, top, down and bottom in the words of S10.3 and S10.4, beside the tests that compute them.
 -- Proved in proofs/Found.antt for the blocks of every accepted family.
 use Prim.Native.Nat.{ℕ}
 use mathlib.Core.Bool.{Bool}

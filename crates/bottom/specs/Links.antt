@@ -1,4 +1,4 @@
--- The blocks of a family by index, in image order: where their ranges stand, and the links by which a walk over a block's own children goes.
+-- Serves contracts and proofs. The blocks of a family by index, in image order: where their ranges stand, and the links by which a walk over a block's own children goes.
 use Prim.Native.Nat.{ℕ, suc, _+_, _*_, _≤_, _<_, max}
 use mathlib.Core.Bool.{Bool, true, false}
 use mathlib.Core.Path.{_≡_}

@@ -1,4 +1,4 @@
--- The field by positions is the head of the part of the image that it looks at (`head-slice`), has the tag that stands there (`field-tag`)
+-- Serves contracts and proofs. The field by positions is the head of the part of the image that it looks at (`head-slice`), has the tag that stands there (`field-tag`)
 -- and lies inside the part (`field-inside`).
 use mathlib.Core.Path.{_≡_, refl, sym, _∙_}
 use mathlib.Core.Bool.{Bool, true, false}

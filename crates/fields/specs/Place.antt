@@ -1,4 +1,4 @@
--- The field at a position of the image, and what a reader passes.
+-- Serves contracts and proofs. The field at a position of the image, and what a reader passes.
 use mathlib.Core.Bool.{cond}
 use mathlib.Core.List.{List}
 use Prim.Native.Nat.{ℕ, zero, suc, _+_, _-_, _*_, _≤_}

@@ -1,4 +1,4 @@
--- Parts of a part of a list, and a part as the code takes it.
+-- Serves contracts and proofs. Parts of a part of a list, and a part as the code takes it.
 use mathlib.Core.Path.{_≡_, _∙_, ap}
 use mathlib.Core.List.{List, [], _∷_}
 use Prim.Native.Nat.{ℕ, zero, suc, _+_, _-_, _≤_}

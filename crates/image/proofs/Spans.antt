@@ -1,11 +1,12 @@
 -- The second call in positions: what the code reads where a record starts is what the definition reads there (`text-read`), and has the part
--- of the record of the number (`span-some`); without such a record the part is empty.
-use mathlib.Core.Path.{_≡_, refl, sym, _∙_, ap}
+-- of the record of the number (`span-some`); without such a record the part is empty. So the span of the definition has the part (`span-is-part`).
+use mathlib.Core.Path.{_≡_, refl, sym, _∙_, ap, subst}
 use mathlib.Core.List.{List}
 use Prim.Native.Nat.{ℕ, _≤_, _<_}
 use native.Mathlib.Omega.{arith}
+use native.Mathlib.Decide.{decLt}
 use borrow.Author.Tests.{lt-ltb, le-ltb}
-use lib.ListN.{length, getD, drop-of-length-le}
+use lib.ListN.{length, drop-of-length-le}
 use lib.Seq.{slice-empty}
 use Rattle.fields.specs.Place.{fieldAt}
 use Rattle.fields.specs.Heads.{field-inside}
@@ -15,11 +16,11 @@ use Rattle.records.specs.declared.Span.{Span}
 use Rattle.image.specs.Image.{Image, sound, defective, imageOf}
 use Rattle.image.specs.Part.{recordsOf, textOfFirst}
 use Rattle.image.specs.Place.{verdictOf}
-use Rattle.image.specs.Entries.{textIn, textSpan, spanOf, PartSpan}
-use Rattle.image.specs.Index.{Standing, Indexed}
+use Rattle.image.specs.Entries.{placeOf, textIn, textSpan, spanOf, PartSpan, SpanIsPart}
+use Rattle.image.specs.Index.{Standing}
 use Rattle.image.specs.declared.Which.{Which}
 use Rattle.image.specs.declared.Verdict.{Verdict}
-use Rattle.image.specs.declared.Verdict.the-variants.{Defective}
+use Rattle.image.specs.declared.Verdict.the-variants.{Sound, Defective}
 use Rattle.image.proofs.Soundness.{counted}
 use Rattle.image.proofs.Standing.{standing-of, text-in-image}
 
@@ -50,18 +51,30 @@ module _ (s : List ℕ) (n : ℕ) (which : Which) where
     inside = record { forward = omega arith; within = omega arith };
   }
 
-  module _ {count : ℕ} {places : List ℕ} (i : Indexed s count places) where
+  module _ {count : ℕ} (e : verdictOf (imageOf s) ≡ Sound count) where
     pub span-beyond : count ≤ n → PartSpan s n which (record { start = 0; end = 0 })
-    span-beyond h = span-none (omega (arith, counted (imageOf s) count (i .sound)))
+    span-beyond h = span-none (omega (arith, counted (imageOf s) count e))
 
-    module _ (h : n < count) where
-      stood : Standing s n
-      stood = standing-of s count (i .sound) n h
+    span-there : n < count → PartSpan s n which (textSpan which s (placeOf s n))
+    unfolding spanOf
+    span-there h =
+        let k : Standing s n = standing-of s count e n h in
+        record {
+          same = rw (lt-ltb n (length (recordsOf (imageOf s))) (omega (arith, counted (imageOf s) count e)));
+          text = k .text which ∙ sym (ap (textOfFirst which) (k .here));
+          inside = text-in-image k which;
+        }
 
-      pub span-some : (x : Span) → x ≡ textSpan which s (getD places n 0) → PartSpan s n which x
-      unfolding spanOf
-      span-some x z = rw (z, i .place n h) (record {
-        same = rw (lt-ltb n (length (recordsOf (imageOf s))) (omega (arith, counted (imageOf s) count (i .sound))));
-        text = stood .text which ∙ sym (ap (textOfFirst which) (stood .here));
-        inside = text-in-image stood which;
-      })
+    pub span-some : n < count → (place : ℕ) → place ≡ placeOf s n → (x : Span) → x ≡ textSpan which s place → PartSpan s n which x
+    span-some h place p x z = rw (z, p) (span-there h)
+
+pub span-is-part : SpanIsPart
+span-is-part s n which = go (imageOf s) refl (decLt n (length (recordsOf (imageOf s))))
+  where
+    same-part : {x : Span} → PartSpan s n which x → PartSpan s n which (spanOf s n which)
+    same-part p = subst (λ (x : Span). PartSpan s n which x) (p .same) p
+
+    go : (i : Image) → imageOf s ≡ i → Dec (n < length (recordsOf (imageOf s))) → PartSpan s n which (spanOf s n which)
+    go i e (no h) = same-part (span-none s n which (omega arith))
+    go (sound records) e (yes h) = same-part (span-there s n which (ap verdictOf e) (rw e at h))
+    go (defective d p) e (yes h) = absurd (let k : n < length (recordsOf (defective d p)) = rw e at h in omega arith)

@@ -1,4 +1,4 @@
--- The records of a sound image by their numbers: where each stands, and where its handle and name are.
+-- The records of a sound image by their numbers: where each stands, and where its handle and name are (S2.2).
 use mathlib.Core.Bool.{cond}
 use mathlib.Core.Path.{_≡_, refl}
 use mathlib.Core.List.{List}
@@ -45,6 +45,10 @@ pub record PartSpan (s : List ℕ) (n : ℕ) (which : Which) (r : Span) : Type 0
   pub same : r ≡ spanOf s n which
   pub text : slice (r .start) (r .end) s ≡ excerptOf (imageOf s) n which
   pub inside : Inside (length s) r
+
+-- What stands there is the part of the second call. Proved in proofs/Spans.antt.
+abbrev pub SpanIsPart : Type 0
+SpanIsPart = (s : List ℕ) (n : ℕ) (which : Which) → PartSpan s n which (spanOf s n which)
 
 -- A part of a slice, not a copy: it has these bytes, lies in the same memory, and starts so far behind the start of the whole.
 pub record PartFrom (whole : RefT (List ℕ)) (start : ℕ) (bytes : List ℕ) (part : RefT (List ℕ)) : Type 0 where

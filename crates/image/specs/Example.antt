@@ -1,4 +1,4 @@
--- The image of document 01, and damaged copies of it.
+-- The image of S13.3, and damaged copies of it.
 use mathlib.Core.Path.{_≡_, refl}
 use mathlib.Core.List.{List, [], _∷_, _++_, map}
 use Prim.Native.Nat.{ℕ}

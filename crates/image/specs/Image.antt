@@ -1,4 +1,4 @@
--- The image: its records, or its first defect (document 01, "The image").
+-- The image: its records, or its first defect (S4, S5).
 use mathlib.Core.Bool.{Bool, cond, _&&_}
 use mathlib.Core.List.{List, [], _∷_, reverse}
 use Prim.Native.Nat.{ℕ, zero, suc}
@@ -17,7 +17,7 @@ abbrev pub afterJudged : Judged → List ℕ → Next
 afterJudged (bad defect) rest = refused defect
 afterJudged (good r) rest = taken r rest
 
--- a record cut short has defect 3
+-- S5.1: a record cut short has defect 3
 abbrev pub nextOf : List Record → Head → Next
 nextOf earlier short = refused 3
 nextOf earlier (field tag contents rest) = afterJudged (judge earlier tag contents) rest
@@ -38,11 +38,11 @@ imageFrom zero earlier (b ∷ bs) = defective 3 (length earlier)
 imageFrom (suc n) earlier [] = sound (reverse earlier)
 imageFrom (suc n) earlier (b ∷ bs) = afterNext earlier (nextOf earlier (headOf (b ∷ bs))) λ r rest. imageFrom n (r ∷ earlier) rest
 
--- It starts with the bytes 01 00 01 01 (edition 1).
+-- S4.2: it starts with the bytes 01 00 01 01 (edition 1).
 unfoldable pub startsRight : List ℕ → Bool
 startsRight s = leb 4 (length s) && eqb (getD s 0 0) 1 && eqb (getD s 1 0) 0 && eqb (getD s 2 0) 1 && eqb (getD s 3 0) 1
 
--- At most 262,144 bytes and 4,096 records. Defects 1 and 2 come before any record's, with place 0.
+-- S4.1: at most 262,144 bytes and 4,096 records. S5.2: defects 1 and 2 come before any record's, with place 0.
 unfoldable pub imageOf : List ℕ → Image
 imageOf s =
     cond (leb (length s) 262144) (cond (startsRight s) (imageFrom 4096 [] (drop 4 s)) (defective 2 0)) (defective 1 0)

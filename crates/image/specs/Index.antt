@@ -1,4 +1,4 @@
--- The records of a sound image by their numbers, found by an index of where each starts.
+-- Serves contracts and proofs. The records of a sound image by their numbers, found by an index of where each starts.
 use mathlib.Core.Path.{_≡_}
 use mathlib.Core.List.{List, _∷_}
 use Prim.Native.Nat.{ℕ, _+_, _*_, _≤_, _<_}

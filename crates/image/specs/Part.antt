@@ -1,4 +1,4 @@
--- The handle or the name of a record by its number.
+-- The handle or the name of a record by its number (S2.2).
 use mathlib.Core.List.{List, [], _∷_}
 use Prim.Native.Nat.{ℕ, _<_}
 use mathlib.Core.Logic.{_↔_}

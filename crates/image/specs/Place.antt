@@ -1,4 +1,4 @@
--- What the code of the check answers, in positions of the image.
+-- Serves contracts and proofs. What the code of the check answers, in positions of the image.
 use mathlib.Core.Bool.{Bool, cond, _&&_}
 use mathlib.Core.Path.{_≡_}
 use mathlib.Core.List.{List}

@@ -14,7 +14,8 @@ use Rattle.numeral.specs.Numeral.{h16}
 use Rattle.numeral.specs.declared.Number.the-variants.{Value, Malformed}
 use Rattle.pieces.specs.Split.{split, FirstPiece}
 use Rattle.address.specs.Lists.{found}
-use Rattle.ip.specs.Ip.{prefixed, joined, exactly, upTo, twoBytes, ipv4, group, orElse, lastGroup, groups, side, elided, GroupsRead}
+use Rattle.ip.specs.Ip.{prefixed, joined, exactly, twoBytes, ipv4, group, orElse, lastGroup, groups, side, elided}
+use Rattle.ip.specs.Answer.{upTo, GroupsRead}
 use Rattle.pieces.proofs.Pieces.{split-cons}
 use Rattle.pieces.proofs.Found.{cond-some, cond-none}
 use Rattle.ip.proofs.Addresses.{prefixed-twice}

@@ -1,13 +1,11 @@
--- IPv4address and IPv6address of RFC 3986, section 3.2.2, as the bytes of the address, high byte first; none where the text is malformed.
-use Prim.Native.Nat.{ℕ, suc, _+_, _-_, _/_, _%_, _≤_}
+-- S8.1: IPv4address and IPv6address of RFC 3986, section 3.2.2, as the bytes of the address, high byte first; none where the text is malformed.
+use Prim.Native.Nat.{ℕ, suc, _+_, _-_, _/_, _%_}
 use Prim.Native.Char.{code}
-use mathlib.Core.Path.{_≡_}
 use mathlib.Core.List.{List, [], _∷_, _++_}
 use mathlib.Core.Bool.{Bool, true, false, cond, _&&_}
 use mathlib.Core.Option.{Option, none, some}
 use lib.Dec.{eqb, leb, ltb}
 use lib.ListN.{length, take, drop, replicate}
-use Rattle.address.specs.Lists.{found}
 use Rattle.numeral.specs.Numeral.{decimal, h16}
 use Rattle.numeral.specs.declared.Number.{Number}
 use Rattle.numeral.specs.declared.Number.the-variants.{Value, Malformed}
@@ -26,11 +24,6 @@ joined (some a) o = prefixed a o
 unfoldable pub exactly : ℕ → Option (List ℕ) → Option (List ℕ)
 exactly n none = none
 exactly n (some a) = cond (eqb (length a) n) (some a) none
-
--- only a text of at most so many bytes
-unfoldable pub upTo : ℕ → Option (List ℕ) → Option (List ℕ)
-upTo n none = none
-upTo n (some a) = cond (leb (length a) n) (some a) none
 
 unfoldable pub oneByte : Number → Option (List ℕ)
 oneByte (Value v) = some (v ∷ [])
@@ -102,8 +95,3 @@ ipv6 s =
 -- of either family; IPv4 text never names an IPv6 address
 unfoldable pub addressOf : List ℕ → Option (List ℕ)
 addressOf s = orElse (ipv4 s) (ipv6 s)
-
--- what a reader of groups answers for o: the first len bytes, or a refusal where o is none or has more than 16
-pub record GroupsRead (o : Option (List ℕ)) (ok : Bool) (len : ℕ) (bytes : List ℕ) : Type 0 where
-  pub small : len ≤ 16
-  pub is : found ok (take len bytes) ≡ upTo 16 o

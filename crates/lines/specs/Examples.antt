@@ -9,7 +9,7 @@ use Rattle.rdap.specs.Cases.{registryS}
 use Rattle.lines.specs.Line.{lineText}
 use Rattle.lines.specs.Computing.{computing}
 
--- "A whole image, 30 bytes, one AS block 12 to 15, handle A, name B, active" (document 01, "Cases")
+-- "A whole image, 30 bytes, one AS block 12 to 15, handle A, name B, active" (S13.3)
 unfoldable oneBlock : List ℕ
 oneBlock =
     0x01 ∷ 0x00 ∷ 0x01 ∷ 0x01

@@ -1,4 +1,4 @@
--- The text of an output line of the small program (document 01, "What the library reads and returns").
+-- The text of an output line of the small program (S12.2).
 use Prim.Native.Nat.{ℕ, _+_, _-_, _*_}
 use Prim.Native.Char.{code}
 use mathlib.Core.Path.{_≡_}

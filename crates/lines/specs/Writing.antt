@@ -1,4 +1,4 @@
--- Text written to the start of a buffer, and how many record numbers an answer reports.
+-- Serves contracts and proofs. Text written to the start of a buffer, and how many record numbers an answer reports.
 use Prim.Native.Nat.{ℕ}
 use mathlib.Core.Path.{_≡_}
 use mathlib.Core.Bool.{cond}

@@ -1,4 +1,4 @@
--- How record numbers are reported to a lent list (document 01, "Status table", reasons 9 and 0).
+-- Serves contracts and proofs. How record numbers are reported to a lent list (S3.2, reasons 9 and 0; S3.5).
 use Prim.Native.Nat.{ℕ, _≤_}
 use mathlib.Core.Bool.{cond}
 use mathlib.Core.Path.{_≡_}

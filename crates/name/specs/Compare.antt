@@ -1,4 +1,4 @@
--- Two texts compared, exactly or with ASCII case folded.
+-- Two texts compared, exactly or with ASCII case folded (S8.4, S9.4).
 use Prim.Native.Nat.{ℕ}
 use mathlib.Core.List.{List, [], _∷_}
 use mathlib.Core.Bool.{Bool, true, false, _&&_}

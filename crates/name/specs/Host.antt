@@ -1,4 +1,4 @@
--- Host names (document 01, "The image"): one or more labels of 1 to 63 letters, digits or hyphens, no hyphen at a label's ends, joined by dots, at most 253 bytes.
+-- Host names (S4.4; in paths S8.4): one or more labels of 1 to 63 letters, digits or hyphens, no hyphen at a label's ends, joined by dots, at most 253 bytes.
 use Prim.Native.Nat.{ℕ, _+_, _-_}
 use Prim.Native.Char.{code}
 use mathlib.Core.List.{List, map}

@@ -1,4 +1,4 @@
--- A test of each place of a row, and the tests of a text's and a host name's places.
+-- Serves contracts and proofs. A test of each place of a row, and the tests of a text's and a host name's places.
 use mathlib.Core.Bool.{Bool, true, _&&_, _||_, not}
 use mathlib.Core.List.{List}
 use Prim.Native.Nat.{ℕ, zero, suc, _+_}

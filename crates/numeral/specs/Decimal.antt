@@ -1,4 +1,4 @@
--- A number written as decimal digits without leading zeros, however large.
+-- S12.2: a number written as decimal digits without leading zeros, however large.
 use Prim.Native.Nat.{ℕ, zero, suc, _+_, _/_, _%_}
 use Prim.Native.Char.{code}
 use mathlib.Core.Bool.{cond}

@@ -1,4 +1,4 @@
--- Numbers written in digits: the value of a digit, and what a text of digits stands for.
+-- S8.1, S8.2: numbers written in digits: the value of a digit, and what a text of digits stands for.
 use Prim.Native.Nat.{ℕ, _+_, _-_, _*_}
 use Prim.Native.Char.{code}
 use mathlib.Core.List.{List, [], _∷_}

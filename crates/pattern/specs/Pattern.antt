@@ -1,4 +1,4 @@
--- Patterns: a text with at most one asterisk, which stands for zero or more bytes (document 01, "Paths").
+-- Patterns: a text with at most one asterisk, which stands for zero or more bytes (S9).
 use Prim.Native.Nat.{ℕ, _+_, _-_}
 use Prim.Native.Char.{code}
 use mathlib.Core.List.{List, [], _∷_}
@@ -19,13 +19,13 @@ isHost Handle = false
 isHost Name = false
 isHost Host = true
 
--- 1 to 64 bytes (host names 253)
+-- S9.1: 1 to 64 bytes (host names 253)
 unfoldable pub longest : Text → ℕ
 longest Handle = 64
 longest Name = 64
 longest Host = 253
 
--- The field's characters or asterisks; host-name patterns may hold letters, digits, hyphen, dot, asterisk.
+-- S9.1: the field's characters or asterisks; host-name patterns may hold letters, digits, hyphen, dot, asterisk.
 unfoldable pub patternByte : Text → ℕ → Bool
 patternByte Handle c = within 0x21 0x7E c
 patternByte Name c = within 0x20 0x7E c
@@ -34,11 +34,11 @@ patternByte Host c = isLabelByte c || eqb c (code ".") || eqb c (code "*")
 unfoldable pub isPattern : Text → List ℕ → Bool
 isPattern text pattern = within 1 (longest text) (length pattern) && every (patternByte text) pattern
 
--- what may follow the asterisk: nothing, or in a host-name pattern a dot and at least one byte
+-- S9.3: what may follow the asterisk: nothing, or in a host-name pattern a dot and at least one byte
 unfoldable pub isSuffix : Bool → List ℕ → Bool
 isSuffix host q = leb (length q) 0 || (host && leb 2 (length q) && eqb (getD q 0 0) (code "."))
 
--- The pieces of a pattern cut at its asterisks. More than one asterisk, or one that is not last, is not supported.
+-- S9.3: the pieces of a pattern cut at its asterisks. More than one asterisk, or one that is not last, is not supported.
 unfoldable pub formOf : Bool → List (List ℕ) → Form
 formOf host [] = Unsupported
 formOf host (p ∷ []) = Exact
@@ -48,7 +48,7 @@ formOf host (p ∷ q ∷ r ∷ ps) = Unsupported
 unfoldable pub patternOf : Text → List ℕ → Form
 patternOf text pattern = cond (isPattern text pattern) (formOf (isHost text) (split (code "*") pattern)) Malformed
 
--- the name is prefix, then some bytes for the asterisk, then suffix; where there is a suffix, those bytes hold no dot
+-- S9.2: the name is prefix, then some bytes for the asterisk, then suffix; where there is a suffix, those bytes hold no dot
 unfoldable pub matches : Bool → List ℕ → List ℕ → List ℕ → Bool
 matches folded prefix suffix name =
     leb (length prefix + length suffix) (length name)
@@ -56,14 +56,14 @@ matches folded prefix suffix name =
     && alike folded suffix (drop (length name - length suffix) name)
     && (leb (length suffix) 0 || not (contains (code ".") (take (length name - (length prefix + length suffix)) (drop (length prefix) name))))
 
--- A name matches a pattern of a form. No asterisk: equality.
+-- S9.2: a name matches a pattern of a form. No asterisk: equality.
 unfoldable pub matchesForm : Bool → Form → List ℕ → List ℕ → Bool
 matchesForm folded Exact pattern name = alike folded pattern name
 matchesForm folded (Asterisk at) pattern name = ltb at (length pattern) && matches folded (take at pattern) (drop (at + 1) pattern) name
 matchesForm folded Unsupported pattern name = false
 matchesForm folded Malformed pattern name = false
 
--- Names match with ASCII case folded, handles exactly.
+-- S9.4: names match with ASCII case folded, handles exactly.
 unfoldable pub foldsCase : Text → Bool
 foldsCase Handle = false
 foldsCase Name = true

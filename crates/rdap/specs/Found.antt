@@ -1,4 +1,4 @@
--- The answers for blocks in the words of document 01, and reason 8 (404) exactly, for every accepted image. Proved in proofs/Found.antt.
+-- The answers for blocks in the words of S10.3, and reason 8 (404) exactly (S10.4), for every accepted image. Proved in proofs/Found.antt.
 use Prim.Native.Nat.{ℕ}
 use mathlib.Core.List.{List}
 use mathlib.Core.Logic.{_↔_}

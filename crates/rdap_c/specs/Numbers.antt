@@ -1,4 +1,4 @@
--- What the C functions write: the numbers of a reply and those of a part of the image.
+-- What the C functions write: the numbers of a reply (S3.1) and those of a part of the image.
 use Prim.Native.Nat.{ℕ, _-_}
 use mathlib.Core.List.{List, [], _∷_}
 use Rattle.records.specs.declared.Span.{Span}

@@ -1,4 +1,4 @@
--- A record judged against the earlier ones: its lowest defect (document 01, "The image").
+-- A record judged against the earlier ones: its lowest defect (S5.1).
 use mathlib.Core.Bool.{Bool, true, false, cond, _||_}
 use mathlib.Core.List.{List, [], _∷_}
 use Prim.Native.Nat.{ℕ}

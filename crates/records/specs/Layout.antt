@@ -1,4 +1,4 @@
--- The parts of a record by its layout: the contents of each field come after a head of three bytes. In a block, field 20 has the size of its
+-- Serves contracts and proofs. The parts of a record by its layout: the contents of each field come after a head of three bytes. In a block, field 20 has the size of its
 -- range and field 23 one byte, so that fields 21 and 22 alone have a length of their own.
 use mathlib.Core.Bool.{true, cond}
 use mathlib.Core.Path.{_≡_}

@@ -1,4 +1,4 @@
--- What the code answers about one record, in positions of the image.
+-- Serves contracts and proofs. What the code answers about one record, in positions of the image.
 use mathlib.Core.Bool.{cond}
 use mathlib.Core.Path.{_≡_}
 use mathlib.Core.List.{List, [], _∷_}

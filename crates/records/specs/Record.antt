@@ -1,4 +1,4 @@
--- A record, and the rules on one record or two (defects 4 to 7 of document 01, "The image").
+-- A record, and the rules on one record or two (S4.3 to S4.6; S5.1: defects 4 to 7).
 use mathlib.Core.Bool.{Bool, not, cond, _&&_, _||_}
 use mathlib.Core.List.{List, [], _∷_}
 use Prim.Native.Nat.{ℕ, _*_}
@@ -18,7 +18,7 @@ pub record Record : Type 0 where
   pub name : List ℕ
   pub status : List ℕ
 
--- 10 IPv4 network, 11 IPv6 network, 12 AS block; 13 domain, 14 nameserver, 15 entity
+-- S4.3: 10 IPv4 network, 11 IPv6 network, 12 AS block; 13 domain, 14 nameserver, 15 entity
 abbrev pub isBlock : ℕ → Bool
 isBlock tag = within 0x10 0x12 tag
 
@@ -29,7 +29,7 @@ isKnown tag = within 0x10 0x15 tag
 abbrev pub widthOf : ℕ → ℕ
 widthOf tag = cond (eqb tag 0x11) 16 4
 
--- Field 20 is first and last, both included, high byte first.
+-- S4.3: field 20 is first and last, both included, high byte first.
 abbrev pub rangeFrom : ℕ → List ℕ → Range
 rangeFrom width bytes = record { first = value (take width bytes); last = value (drop width bytes) }
 
@@ -60,7 +60,7 @@ abbrev pub ending : List ℕ → Parsed → Parsed
 ending [] p = p
 ending (b ∷ bs) p = malformed
 
--- Each record is a field whose contents are fields, all present, once each, in the order shown.
+-- S4.3: each record is a field whose contents are fields, all present, once each, in the order shown.
 unfoldable pub recordOf : ℕ → List ℕ → Parsed
 recordOf tag contents =
     cond (isBlock tag)
@@ -77,11 +77,11 @@ recordOf tag contents =
 unfoldable pub goodName : ℕ → List ℕ → Bool
 goodName tag name = cond (within 0x13 0x14 tag) (goodHost name) (goodText 0x20 name)
 
--- 21 is a handle, 22 a name
+-- S4.3: 21 is a handle, 22 a name
 abbrev pub goodTexts : Record → Bool
 goodTexts r = goodText 0x21 (r .handle) && goodName (r .tag) (r .name)
 
--- 23 is 1 or 0, and first is not above last. A record without 20 and 23 has no bytes there, which are 0.
+-- S4.3: 23 is 1 or 0, and first is not above last. A record without 20 and 23 has no bytes there, which are 0.
 unfoldable pub goodContents : Record → Bool
 goodContents r = goodTexts r && (leb (value (r .status)) 1 && wellFormed (rangeOf r))
 
@@ -95,7 +95,7 @@ keyOf r = cond (eqb (r .tag) 0x15) (r .handle) (r .name)
 unfoldable pub sortedAfter : Record → Record → Bool
 sortedAfter p r = cond (isBlock (r .tag)) (sortsAfter (rangeOf p) (rangeOf r)) (not (atMost (keyOf r) (keyOf p)))
 
--- Not defect 6: the tag is not lower than its predecessor's, and the same tag is strictly after it in the sorting.
+-- S4.6: not defect 6: the tag is not lower than its predecessor's, and the same tag is strictly after it in the sorting.
 unfoldable pub follows : Record → Record → Bool
 follows p r = ltb (p .tag) (r .tag) || (eqb (p .tag) (r .tag) && sortedAfter p r)
 

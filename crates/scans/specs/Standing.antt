@@ -1,4 +1,4 @@
--- Blocks where they stand in a sound image, and the range that is asked for.
+-- Serves contracts and proofs. Blocks where they stand in a sound image, and the range that is asked for.
 use Prim.Native.Nat.{ℕ, _≤_}
 use mathlib.Core.Bool.{true}
 use mathlib.Core.Path.{_≡_}

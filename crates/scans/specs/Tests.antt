@@ -1,4 +1,4 @@
--- The tests of the passes.
+-- Serves contracts and proofs. The tests of the passes.
 use Prim.Native.Nat.{ℕ, suc, _+_, _*_, _≤_}
 use mathlib.Core.Bool.{Bool, true, false, cond, _&&_}
 use mathlib.Core.List.{List, [], _∷_}

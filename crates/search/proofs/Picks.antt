@@ -25,7 +25,8 @@ use Rattle.image.proofs.Soundness.{counted, few-records, few-bytes}
 use Rattle.image.proofs.Standing.{standing-of, text-in-image, place-inside}
 use Rattle.listing.specs.Listing.{Reported}
 use Rattle.listing.specs.declared.Listed.{Listed}
-use Rattle.search.specs.Search.{numbersFrom, picksRecord}
+use Rattle.search.specs.Search.{numbersFrom}
+use Rattle.search.specs.Picks.{picksRecord}
 
 -- the test of the text, on a part of the image
 pub text-picked :

@@ -31,7 +31,7 @@ indexed : (c : tie.After-count) → Indexed (now (c .before .before .before .bef
 indexed c = c .before .before .index .ensures .indexed _ (c .count .given .1)
 
 returns-2 : tie.Need-returns-2
-returns-2 c = span-beyond _ _ _ (indexed (c .before .before)) (c .if1 .taken)
+returns-2 c = span-beyond _ _ _ (indexed (c .before .before) .sound) (c .if1 .taken)
 
 mul-text-span : tie.Need-mul-text-span
 mul-text-span c = search needs
@@ -48,7 +48,10 @@ text-span-requires : tie.Need-text-span-requires
 text-span-requires c κs = search needs
 
 returns-3 : tie.Need-returns-3
-returns-3 c = span-some _ _ _ (indexed (c .before .before .before)) (c .before .if1 .left) _ (c .text-span .ensures)
+returns-3 c =
+    let x = indexed (c .before .before .before) in
+    let h = c .before .if1 .left in
+    span-some _ _ _ (x .sound) h _ (x .place _ h) _ (c .text-span .ensures)
 
 pub part-span-spec : {M : Type 1} → statement M
 part-span-spec =
