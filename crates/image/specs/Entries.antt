@@ -1,4 +1,5 @@
--- The records of a sound image by their numbers: where each stands, and where its handle and name are (S2.2).
+-- Serves contracts and proofs. The records of a sound image by their numbers: where each stands, and where its handle and name are, which
+-- `SpanIsPart` ties to the second call (S2.2).
 use mathlib.Core.Bool.{cond}
 use mathlib.Core.Path.{_≡_, refl}
 use mathlib.Core.List.{List}
@@ -6,7 +7,6 @@ use Prim.Native.Nat.{ℕ, _+_}
 use lib.Dec.{ltb}
 use lib.ListN.{length}
 use lib.Seq.{slice}
-use denote.Ref.{RefT, now}
 use Rattle.fields.specs.Place.{fieldAt, passed}
 use Rattle.fields.specs.declared.Field.{Field}
 use Rattle.fields.specs.declared.Field.the-variants.{Whole, Short}
@@ -49,9 +49,3 @@ pub record PartSpan (s : List ℕ) (n : ℕ) (which : Which) (r : Span) : Type 0
 -- What stands there is the part of the second call. Proved in proofs/Spans.antt.
 abbrev pub SpanIsPart : Type 0
 SpanIsPart = (s : List ℕ) (n : ℕ) (which : Which) → PartSpan s n which (spanOf s n which)
-
--- A part of a slice, not a copy: it has these bytes, lies in the same memory, and starts so far behind the start of the whole.
-pub record PartFrom (whole : RefT (List ℕ)) (start : ℕ) (bytes : List ℕ) (part : RefT (List ℕ)) : Type 0 where
-  pub same : now part ≡ bytes
-  pub memory : part .ptr .0 ≡ whole .ptr .0
-  pub offset : part .ptr .1 ≡ whole .ptr .1 + start
