@@ -1,12 +1,9 @@
 -- Serves contracts and proofs. The blocks of a family by index, in image order: where their ranges stand, and the links by which a walk over a block's own children goes.
-use Prim.Native.Nat.{ℕ, suc, _+_, _*_, _≤_, _<_, max}
-use mathlib.Core.Bool.{Bool, true, false}
+use Prim.Native.Nat.{ℕ, _+_, _*_, _≤_, _<_}
 use mathlib.Core.Path.{_≡_}
 use mathlib.Core.List.{List}
 use lib.Dec.{T}
 use lib.ListN.{length, getD}
-use Rattle.address.specs.Address.{number}
-use Rattle.address.specs.declared.Range.{Range}
 use Rattle.address.specs.Positions.{rangeIn}
 use Rattle.records.specs.Record.{widthOf}
 use Rattle.image.specs.declared.Run.{Run}
@@ -56,14 +53,8 @@ pub record Numbered (s : List ℕ) (family from n : ℕ) : Type 0 where
   pub few : from + n ≤ 4096
   pub number : (k : ℕ) → k < n → nth (blocksIn s family) k .number ≡ from + k
 
--- the first address that no child seen so far holds, where the last child seen, if any, ends at kept
-unfoldable pub freeFrom : ℕ → Bool → ℕ → ℕ
-freeFrom low true kept = max low (suc kept)
-freeFrom low false kept = low
-
--- what the test of block i against a range asks
-pub record Testable (s : List ℕ) (family : ℕ) (starts links : List ℕ) (n i : ℕ) (range : Range) : Type 0 where
+-- what the test of block i asks
+pub record Testable (s : List ℕ) (family : ℕ) (starts links : List ℕ) (n i : ℕ) : Type 0 where
   pub gathered : Gathered s family starts n
   pub linked : Linked (blocksIn s family) links 0
   pub known : i < n
-  pub proper : number (range .first) ≤ number (range .last)

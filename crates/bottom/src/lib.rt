@@ -1,25 +1,20 @@
 // Bottom over a sound image: each block of the family is tested by a walk over its own children, which stops at the first address left over.
 ghost use mathlib.Core.Path.{_≡_};
 ghost use Prim.Native.Nat.{suc, _+_, _≤_, _<_, max, min};
-ghost use lib.Dec.{leb, ltb};
 ghost use lib.ListN.{length};
-ghost use Rattle.address.specs.Address.{number, numbers};
+ghost use Rattle.address.specs.Address.{numbers};
 ghost use Rattle.address.specs.Words.{numberOf};
-ghost use Rattle.address.specs.Ranges.{overlaps as «overlaps_of»};
-ghost use Rattle.address.specs.Positions.{numberIn, rangeIn};
 ghost use Rattle.blocks.specs.Relations.{select, bottom as «bottom_of»};
-ghost use Rattle.blocks.specs.Scans.{gapIn};
+ghost use Rattle.blocks.specs.Scans.{gapPass, gapIn};
 ghost use Rattle.scans.specs.Standing.{blocksIn, Asked};
 ghost use Rattle.listing.specs.Listing.{Collected};
-ghost use Rattle.scans.specs.Tests.{Comparable};
-ghost use Rattle.bottom.specs.Links.{nth, Link, Linked, Reachable, Started, Gathered, Numbered, Testable, freeFrom};
+ghost use Rattle.bottom.specs.Links.{nth, Link, Linked, Reachable, Started, Gathered, Numbered, Testable};
 use address::Range;
 use address::Words;
-use address::at_least_at;
-use address::at_most_at;
 use address::numbers_at_most;
 use address::words_at;
 use address::words_at_most;
+use address::words_of;
 use image::Run;
 use records::width_of;
 use scans::any_inside;
@@ -79,80 +74,68 @@ fn links_of(image: &[u8], family: u8, starts: &[u32; 4096], n: usize) -> [u32; 4
     links
 }
 
-// Whether an address lies between x and y: y is above the one after x.
-fn apart(x: Words, y: Words) -> bool
-    ensures { λ r. ⌜ r ≡ ltb (suc (numberOf x)) (numberOf y) ⌝ }
+fn lesser(x: Words, y: Words) -> Words
+    ensures { λ r. ⌜ numberOf r ≡ min (numberOf x) (numberOf y) ⌝ }
+{
+    if words_at_most(x, y) { x } else { y }
+}
+
+fn greater(x: Words, y: Words) -> Words
+    ensures { λ r. ⌜ numberOf r ≡ max (numberOf x) (numberOf y) ⌝ }
+{
+    if words_at_most(x, y) { y } else { x }
+}
+
+// The address after one that is not the last of all.
+fn next(x: Words) -> Words
+    requires { ⌜ (x .low ≡ 18446744073709551615 → x .high < 18446744073709551615) ⌝ }
+    ensures { λ r. ⌜ numberOf r ≡ suc (numberOf x) ⌝ }
 {
     if x.low < 18446744073709551615 {
-        let next = Words {
+        return Words {
             high: x.high,
             low: x.low + 1,
         };
-        return !words_at_most(y, next);
     }
-    if x.high < 18446744073709551615 {
-        let next = Words {
-            high: x.high + 1,
-            low: 0,
-        };
-        return !words_at_most(y, next);
+    Words {
+        high: x.high + 1,
+        low: 0,
     }
-    false
 }
 
-// Whether the block's range at a position shares an address with the range.
-fn overlaps(image: &[u8], at: usize, width: usize, range: Range) -> bool
-    requires { ⌜ Comparable (now image) at width ⌝ }
-    ensures { λ r. ⌜ r ≡ «overlaps_of» (rangeIn (now (image .entry)) at width) (numbers range) ⌝ }
-{
-    if !at_least_at(range.last, image, at, width) {
-        return false;
-    }
-    at_most_at(range.first, image, at + width, width)
-}
-
-// Whether a child begins after the first address, of those that the range and the block at a position share, that no child seen so far holds.
-fn begins_later(
+// Whether the children of block i leave an address from free to limit.
+fn children_leave(
     image: &[u8],
-    at: usize,
-    child: usize,
-    any: bool,
-    kept: usize,
-    width: usize,
-    range: Range,
+    family: u8,
+    starts: &[u32; 4096],
+    links: &[u32; 4096],
+    n: usize,
+    i: usize,
+    mut free: Words,
+    limit: Words,
 ) -> bool
-    requires { ⌜ Comparable (now image) at width × Comparable (now image) child width × Comparable (now image) kept width ⌝ }
-    ensures { λ r. ⌜ r ≡ ltb (freeFrom (max (number (range .first)) (numberIn (now (image .entry)) at width)) any
-        (numberIn (now (image .entry)) (kept + width) width)) (numberIn (now (image .entry)) child width) ⌝ }
+    requires { ⌜ Testable (now image) family (now starts) (now links) n i × (numberOf free ≤ numberOf limit) ⌝ }
+    ensures { λ r. ⌜ r ≡ gapPass (nth (blocksIn (now (image .entry)) family) i .range) (numberOf free) (numberOf limit) (blocksIn (now (image .entry)) family) ⌝ }
 {
-    if at_least_at(range.first, image, child, width) {
-        return false;
-    }
-    if numbers_at_most(image, child, image, at, width) {
-        return false;
-    }
-    if any {
-        return apart(
-            words_at(image, kept + width, width),
-            words_at(image, child, width),
-        );
+    let width = width_of(family);
+    let end = links[i] as usize;
+    let mut j = i + 1;
+    while j < end {
+        let child = starts[j] as usize;
+        if !words_at_most(words_at(image, child, width), free) {
+            return true;
+        }
+        let last = words_at(image, child + width, width);
+        if words_at_most(limit, last) {
+            return false;
+        }
+        free = greater(free, next(last));
+        j = links[j] as usize;
     }
     true
 }
 
-// Whether a child reaches to the end of what the range and the block at a position share.
-fn reaches(image: &[u8], at: usize, child: usize, width: usize, range: Range) -> bool
-    requires { ⌜ Comparable (now image) at width × Comparable (now image) child width ⌝ }
-    ensures { λ r. ⌜ r ≡ leb (min (number (range .last)) (numberIn (now (image .entry)) (at + width) width))
-        (numberIn (now (image .entry)) (child + width) width) ⌝ }
-{
-    if at_most_at(range.last, image, child + width, width) {
-        return true;
-    }
-    numbers_at_most(image, at + width, image, child + width, width)
-}
-
-// Whether block i is the smallest one that holds some address of the range.
+// Whether block i is the smallest one that holds some address of the range: of those that both have, its children leave one.
 fn leaves_gap(
     image: &[u8],
     family: u8,
@@ -162,31 +145,17 @@ fn leaves_gap(
     i: usize,
     range: Range,
 ) -> bool
-    requires { ⌜ Testable (now image) family (now starts) (now links) n i range ⌝ }
+    requires { ⌜ Testable (now image) family (now starts) (now links) n i ⌝ }
     ensures { λ r. ⌜ r ≡ gapIn (blocksIn (now (image .entry)) family) (numbers range) (nth (blocksIn (now (image .entry)) family) i .range) ⌝ }
 {
     let width = width_of(family);
     let start = starts[i] as usize;
-    if !overlaps(image, start, width, range) {
+    let limit = lesser(words_of(range.last), words_at(image, start + width, width));
+    let free = greater(words_of(range.first), words_at(image, start, width));
+    if !words_at_most(free, limit) {
         return false;
     }
-    let end = links[i] as usize;
-    let mut any = false;
-    let mut kept = start;
-    let mut j = i + 1;
-    while j < end {
-        let child = starts[j] as usize;
-        if begins_later(image, start, child, any, kept, width, range) {
-            return true;
-        }
-        if reaches(image, start, child, width, range) {
-            return false;
-        }
-        any = true;
-        kept = child;
-        j = links[j] as usize;
-    }
-    true
+    children_leave(image, family, starts, links, n, i, free, limit)
 }
 
 // The record numbers of the blocks that are the smallest one holding some address of the range. The first block has the number from.
@@ -200,7 +169,7 @@ fn holders(
     hits: &mut [u32; 4096],
 ) -> usize
     requires { ⌜ Gathered (now image) family (now starts) n × Numbered (now image) family from n
-        × (number (range .first) ≤ number (range .last)) × (length (now hits) ≡ 4096) ⌝ }
+        × (length (now hits) ≡ 4096) ⌝ }
     ensures { λ r. ⌜ Collected (now (hits .exit)) (select (λ b. gapIn (blocksIn (now (image .entry)) family) (numbers range) (b .range)) (blocksIn (now (image .entry)) family)) r ⌝ }
 {
     let links = links_of(image, family, starts, n);

@@ -8,6 +8,9 @@ use lib.Seq.{length-take-le}
 use Rattle.listing.specs.Listing.{Reported, Collected}
 use Rattle.listing.specs.declared.Listed.{Listed}
 
+pub same-reported : {x y list after : List ℕ} {r : Listed} → x ≡ y → Reported x list after r → Reported y list after r
+same-reported e p = rw (← e) p
+
 module _ {hits found : List ℕ} {n : ℕ} (c : Collected hits found n) where
   pub in-hits : n ≤ length hits
   in-hits = omega (arith, c .full, c .few)
@@ -19,4 +22,4 @@ module _ {hits found : List ℕ} {n : ℕ} (c : Collected hits found n) where
   few-reported = let k = as-many in omega (arith, c .few)
 
   pub reported : {list after : List ℕ} {r : Listed} → Reported (take n hits) list after r → Reported found list after r
-  reported p = rw (← c .same) p
+  reported p = same-reported (c .same) p

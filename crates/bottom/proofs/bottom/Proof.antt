@@ -20,7 +20,7 @@ gather-requires c κs = (reachable (c .before .before .before .before .pre .0), 
 holders-requires : tie.Need-holders-requires
 holders-requires c κs =
     let q = c .before .before .before .before .before .before .before .pre .0 in
-    (gathered q (c .before .before .gather .ensures), numbered q (c .before .before .gather .ensures), q .proper, c .before .before .before .before .before .before .before .pre .1)
+    (gathered q (c .before .before .gather .ensures), numbered q (c .before .before .gather .ensures), c .before .before .before .before .before .before .before .pre .1)
 
 returns-2 : tie.Need-returns-2
 returns-2 c = bottom-some _ (asked-accepted (c .before .before .before .before .before .before .before .before .pre .0)) _ (c .before .before .before .before .before .before .any-inside .ensures) (not-false _ (c .before .before .before .before .before .if1 .left)) (c .holders .ensures)

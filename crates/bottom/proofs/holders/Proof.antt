@@ -30,10 +30,10 @@ links-of-requires : tie.Need-links-of-requires Inv-loop μ-loop
 links-of-requires c κs = c .before .pre .0
 
 loop-holds : tie.Need-loop-holds Inv-loop μ-loop
-loop-holds c = (omega arith, omega arith, c .before .before .pre .3, refl)
+loop-holds c = (omega arith, omega arith, c .before .before .pre .2, refl)
 
 leaves-gap-requires : tie.Need-leaves-gap-requires Inv-loop μ-loop
-leaves-gap-requires c κs = record { gathered = c .before .before .before .before .before .pre .0; linked = c .before .before .before .links-of .ensures; known = c .before .loop-test .taken; proper = c .before .before .before .before .before .pre .2 }
+leaves-gap-requires c κs = record { gathered = c .before .before .before .before .before .pre .0; linked = c .before .before .before .links-of .ensures; known = c .before .loop-test .taken }
 
 cast-hits : tie.Need-cast-hits Inv-loop μ-loop
 cast-hits c = let few = c .before .before .before .before .before .before .before .pre .0 .few in search needs

@@ -1,4 +1,5 @@
 -- `relations::top` meets its contract: what was found is reported.
+use Rattle.listing.proofs.Reports.{same-reported}
 use borrow.Author.Needs.{needs}
 use Rattle.relations.proofs.top.Statement.{statement}
 use Rattle.relations.proofs.top.Tie as tie
@@ -13,7 +14,7 @@ same-length : tie.Need-same-length
 same-length c = search needs
 
 returns : tie.Need-returns
-returns c = rw (← c .before .before .before .before .first-around .ensures) (c .before .before .report-found .ensures)
+returns c = same-reported (c .before .before .before .before .first-around .ensures) (c .before .before .report-found .ensures)
 
 pub top-spec : {M : Type 1} → statement M
 top-spec = tie.close (tie.spec first-around-requires report-found-requires same-length returns)

@@ -1,0 +1,157 @@
+-- `bottom::children_leave` meets its contract: the pass for a gap over the rest, from the first address that is free, gives the answer.
+use Prim.Native.Nat.{_-_, _<_}
+use mathlib.Core.Path.{sym, _∙_}
+use native.Mathlib.Omega.{arith}
+use borrow.Author.Tests.{not-true, not-false, leb-false}
+use Rattle.address.specs.Words.{numberOf}
+use Rattle.blocks.specs.Scans.{gapPass}
+use Rattle.scans.specs.Standing.{blocksIn}
+use Rattle.bottom.specs.Links.{nth}
+use Rattle.bottom.proofs.Carry.{room}
+use Rattle.bottom.proofs.Tests.{comparable-at}
+use Rattle.bottom.proofs.Children.{Walking, walk-start, walk-end, child-known, walk-gap, walk-over, walk-next}
+use borrow.Author.Needs.{needs}
+use Rattle.bottom.proofs.children_leave.Statement.{statement}
+use Rattle.bottom.proofs.children_leave.Tie as tie
+
+abbrev Inv-loop : tie.InvT-loop
+Inv-loop image family starts links n i free₀ limit width end j₀ free j =
+    Walking image family i (gapPass (nth (blocksIn image family) i .range) (numberOf free₀) (numberOf limit) (blocksIn image family)) j end (numberOf free) (numberOf limit)
+
+abbrev μ-loop : tie.MeasureT-loop
+μ-loop image family starts links n i free₀ limit width end j₀ free j = end - j
+
+-- the child of this turn
+child : (c : tie.In-loop Inv-loop μ-loop) → c .before .loop .j < c .before .before .before .before .before .args .n
+child c = child-known (c .before .before .before .before .before .pre .0) (c .before .loop .inv) (c .loop-test .taken)
+
+width-of-requires : tie.Need-width-of-requires Inv-loop μ-loop
+width-of-requires c κs = search needs
+
+mul-end : tie.Need-mul-end Inv-loop μ-loop
+mul-end c = let few = c .before .before .pre .0 .gathered .few in let known = c .before .before .pre .0 .known in search needs
+
+element-copy-out-end : tie.Need-element-copy-out-end Inv-loop μ-loop
+element-copy-out-end c = let few = c .before .before .pre .0 .gathered .few in let known = c .before .before .pre .0 .known in search needs
+
+cast-end : tie.Need-cast-end Inv-loop μ-loop
+cast-end c =
+    let p = c .before .before .before .pre .0 in
+    let all = p .gathered .counted in
+    let few = p .gathered .few in
+    let known = p .known in
+    let up = p .linked (c .before .before .before .args .i) (omega arith) (omega arith) .upto in
+    omega arith
+
+add-j : tie.Need-add-j Inv-loop μ-loop
+add-j c = let few = c .before .before .before .pre .0 .gathered .few in let known = c .before .before .before .pre .0 .known in search needs
+
+loop-holds : tie.Need-loop-holds Inv-loop μ-loop
+loop-holds c = walk-start (c .before .before .before .pre .0) _ _ (c .before .before .before .pre .1)
+
+mul-child : tie.Need-mul-child Inv-loop μ-loop
+mul-child c = let few = c .before .before .before .before .before .pre .0 .gathered .few in let known = child (c) in search needs
+
+element-copy-out-child : tie.Need-element-copy-out-child Inv-loop μ-loop
+element-copy-out-child c = let few = c .before .before .before .before .before .pre .0 .gathered .few in let known = child (c) in search needs
+
+cast-child : tie.Need-cast-child Inv-loop μ-loop
+cast-child c = let b = c .before .before .before .before .before .before .pre .0 .gathered .fits (c .before .before .loop .j) (child (c .before)) in search needs
+
+words-at-requires : tie.Need-words-at-requires Inv-loop μ-loop
+words-at-requires c κs =
+    let p = c .before .before .before .before .before .before .pre .0 in
+    let k = comparable-at (p .gathered) _ (child (c .before)) (c .before .before .before .before .width-of .ensures .0) in
+    (k .wide, omega (arith, k .fits))
+
+words-at-most-requires : tie.Need-words-at-most-requires Inv-loop μ-loop
+words-at-most-requires c κs = search needs
+
+returns : tie.Need-returns Inv-loop μ-loop
+returns c = walk-gap (c .before .before .before .before .before .before .before .before .before .pre .0) (c .before .before .before .before .before .loop .inv) (c .before .before .before .before .loop-test .taken) (c .before .before .before .before .before .before .before .width-of .ensures .0) (c .before .before .words-at .ensures) (c .before .words-at-most .ensures) (not-true _ (c .if1 .taken))
+
+add-words-at : tie.Need-add-words-at Inv-loop μ-loop
+add-words-at c = let b = c .before .before .before .before .before .before .before .before .before .pre .0 .gathered .fits (c .before .before .before .before .before .loop .j) (child (c .before .before .before .before)) in search needs
+
+words-at-requires-2 : tie.Need-words-at-requires-2 Inv-loop μ-loop
+words-at-requires-2 c κs =
+    let p = c .before .before .before .before .before .before .before .before .before .pre .0 in
+    let k = comparable-at (p .gathered) _ (child (c .before .before .before .before)) (c .before .before .before .before .before .before .before .width-of .ensures .0) in
+    (k .wide, omega (arith, k .fits))
+
+words-at-most-requires-2 : tie.Need-words-at-most-requires-2 Inv-loop μ-loop
+words-at-most-requires-2 c κs = search needs
+
+returns-2 : tie.Need-returns-2 Inv-loop μ-loop
+returns-2 c = walk-over (c .before .before .before .before .before .before .before .before .before .before .before .before .pre .0) (c .before .before .before .before .before .before .before .before .loop .inv) (c .before .before .before .before .before .before .before .loop-test .taken) (c .before .before .before .before .before .before .before .before .before .before .width-of .ensures .0) (c .before .before .before .before .before .words-at .ensures) (c .before .before .before .before .words-at-most .ensures) (not-false _ (c .before .before .before .if1 .left)) (c .before .before .words-at2 .ensures) (c .before .words-at-most2 .ensures) (c .if2 .taken)
+
+next-requires : tie.Need-next-requires Inv-loop μ-loop
+next-requires c κs = room 18446744073709551615 _ _ _ _ (omega arith) (omega arith) (omega arith) (leb-false _ _ (sym (c .before .words-at-most2 .ensures) ∙ c .if2 .left))
+
+greater-requires : tie.Need-greater-requires Inv-loop μ-loop
+greater-requires c κs = search needs
+
+mul-j : tie.Need-mul-j Inv-loop μ-loop
+mul-j c = let few = c .before .before .before .before .before .before .before .before .before .before .before .before .before .before .pre .0 .gathered .few in let known = child (c .before .before .before .before .before .before .before .before .before) in search needs
+
+element-copy-out-j : tie.Need-element-copy-out-j Inv-loop μ-loop
+element-copy-out-j c = let few = c .before .before .before .before .before .before .before .before .before .before .before .before .before .before .pre .0 .gathered .few in let known = child (c .before .before .before .before .before .before .before .before .before) in search needs
+
+cast-j : tie.Need-cast-j Inv-loop μ-loop
+cast-j c =
+    let p = c .before .before .before .before .before .before .before .before .before .before .before .before .before .before .before .pre .0 in
+    let all = p .gathered .counted in
+    let few = p .gathered .few in
+    let known = child (c .before .before .before .before .before .before .before .before .before .before) in
+    let link = p .linked (c .before .before .before .before .before .before .before .before .before .before .before .loop .j) (omega arith) (omega arith) in
+    let up = link .upto in
+    let ahead = link .ahead in
+    omega arith
+
+loop-less : tie.Need-loop-less Inv-loop μ-loop
+loop-less c =
+    let p = c .before .before .before .before .before .before .before .before .before .before .before .before .before .before .before .pre .0 in
+    let all = p .gathered .counted in
+    let few = p .gathered .few in
+    let known = child (c .before .before .before .before .before .before .before .before .before .before) in
+    let link = p .linked (c .before .before .before .before .before .before .before .before .before .before .before .loop .j) (omega arith) (omega arith) in
+    let up = link .upto in
+    let ahead = link .ahead in
+    omega arith
+
+loop-again : tie.Need-loop-again Inv-loop μ-loop
+loop-again c = walk-next (c .before .before .before .before .before .before .before .before .before .before .before .before .before .before .before .pre .0) (c .before .before .before .before .before .before .before .before .before .before .before .loop .inv) (c .before .before .before .before .before .before .before .before .before .before .loop-test .taken) (c .before .before .before .before .before .before .before .before .before .before .before .before .before .width-of .ensures .0) (c .before .before .before .before .before .before .before .before .words-at .ensures) (c .before .before .before .before .before .before .before .words-at-most .ensures) (not-false _ (c .before .before .before .before .before .before .if1 .left)) (c .before .before .before .before .before .words-at2 .ensures) (c .before .before .before .before .words-at-most2 .ensures) (c .before .before .before .if2 .left) (c .before .greater .ensures ∙ rw (c .before .before .next .ensures))
+
+returns-3 : tie.Need-returns-3 Inv-loop μ-loop
+returns-3 c = walk-end (c .before .before .before .before .before .pre .0) (c .before .loop .inv) (c .loop-test .left)
+
+pub children-leave-spec : {M : Type 1} → statement M
+children-leave-spec =
+    tie.close
+    (tie.spec
+    Inv-loop
+    μ-loop
+    width-of-requires
+    mul-end
+    element-copy-out-end
+    cast-end
+    add-j
+    loop-holds
+    mul-child
+    element-copy-out-child
+    cast-child
+    words-at-requires
+    words-at-most-requires
+    returns
+    add-words-at
+    words-at-requires-2
+    words-at-most-requires-2
+    returns-2
+    next-requires
+    greater-requires
+    mul-j
+    element-copy-out-j
+    cast-j
+    loop-less
+    loop-again
+    returns-3)

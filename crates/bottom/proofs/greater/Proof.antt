@@ -1,0 +1,20 @@
+-- `bottom::greater` meets its contract.
+use native.Mathlib.Omega.{arith}
+use mathlib.Core.Path.{sym, _∙_}
+use borrow.Author.Tests.{leb-true, leb-false}
+use Rattle.address.specs.Words.{numberOf}
+use borrow.Author.Needs.{needs}
+use Rattle.bottom.proofs.greater.Statement.{statement}
+use Rattle.bottom.proofs.greater.Tie as tie
+
+words-at-most-requires : tie.Need-words-at-most-requires
+words-at-most-requires c κs = search needs
+
+returns : tie.Need-returns
+returns c = let a = c .before .before .args in omega (arith, leb-true (numberOf (a .x)) (numberOf (a .y)) (sym (c .before .words-at-most .ensures) ∙ c .if1 .taken))
+
+returns-2 : tie.Need-returns-2
+returns-2 c = let a = c .before .before .args in omega (arith, leb-false (numberOf (a .x)) (numberOf (a .y)) (sym (c .before .words-at-most .ensures) ∙ c .if1 .left))
+
+pub greater-spec : {M : Type 1} → statement M
+greater-spec = tie.close (tie.spec words-at-most-requires returns returns-2)
