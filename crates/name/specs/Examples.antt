@@ -1,9 +1,8 @@
 -- Host names that are good and that are not.
-use Prim.Native.Nat.{ℕ}
 use Prim.Native.String.{String}
 use mathlib.Core.Path.{_≡_, refl}
 use mathlib.Core.List.{List, [], _∷_, map}
-use mathlib.Core.Bool.{Bool, true, false}
+use mathlib.Core.Bool.{true, false}
 use Rattle.pieces.specs.Ascii.{ascii}
 use Rattle.name.specs.Host.{isHostName}
 use Rattle.name.specs.Computing.{computing}

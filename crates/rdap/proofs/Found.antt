@@ -1,6 +1,6 @@
 -- Reason 8 exactly: the replies tell the answers (Forest.antt), and these are empty exactly if no block covers (Found.antt of the crate blocks).
 use Prim.Native.Nat.{ℕ}
-use mathlib.Core.List.{List, []}
+use mathlib.Core.List.{List}
 use mathlib.Core.Logic.{_↔_, Iff·trans}
 use mathlib.Core.Path.{_≡_}
 use lib.Dec.{T}
