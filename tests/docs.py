@@ -44,12 +44,12 @@ for rule in sorted(rules):
     section = rule.split(".")[0]
     check(section in ("S1", rule) or re.search(rf"\b{re.escape(rule)}\b|^\| {section} ", promises, re.M), f"PROMISES.md: no row for {rule}")
 
-# Functions, definitions and must-fail edits that PROMISES and DECISIONS name.
+# Functions, definitions and must-fail edits that the documents name.
 sources = "\n".join(text(p) for p in CRATES.rglob("*.rt"))
 logic = "\n".join(text(p) for p in CRATES.rglob("*.antt"))
 edits = {str(p.relative_to(CRATES)).replace("/must-fail/", "/")[:-5] for p in CRATES.glob("*/must-fail/*.edit")}
 crates = {p.name for p in CRATES.iterdir()}
-for name in ("PROMISES.md", "DECISIONS.md"):
+for name in ("PROMISES.md", "DECISIONS.md", "PROVING.md", "ARCHITECTURE.md"):
     for quoted in sorted(set(re.findall(r"`([^`\n]+)`", document(name)))):
         function = re.fullmatch(r"([a-z_]+)::(?:[a-z_]+::)?([A-Za-z_]+)(?:::[a-z_]+)?(?:\(.*\))?", quoted)
         edit = re.fullmatch(r"([a-z_]+)/([a-z_0-9]*)(\.\.)?", quoted)
