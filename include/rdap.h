@@ -1,4 +1,5 @@
 /* Answers RDAP requests from a registry image. Every function is proved to write what its definition says, for any input.
+ * The rules are in docs/SPECIFICATION.md and cited as S3.2; the format of an image is S4.
  *
  * Link with the archive that `rt staticlib rdap_c` writes to target/staticlib/librdap_c.a (x86-64, System V calls).
  * It needs memcpy and memset and nothing else.
@@ -25,7 +26,7 @@
 extern "C" {
 #endif
 
-/* The places of a reply */
+/* The places of a reply (S3.1) */
 enum {
     RDAP_STATUS,   /* the HTTP status, see the table below */
     RDAP_REASON,   /* 0 answered, else why not */
@@ -37,7 +38,7 @@ enum {
     RDAP_REPLY_PLACES
 };
 
-/* Reasons; the first that applies is given.
+/* Reasons (S3.2); the first that applies is given.
  *
  *   1  414  path longer than 1,024 bytes
  *   2  500  image defective; defect and place say how
@@ -50,17 +51,18 @@ enum {
  *   9  507  the list has fewer places than there are records to report
  *   0  200  answered; the first count places of the list hold the record numbers, ascending, the rest are unchanged
  *
- * On every refusal the whole list is unchanged. A list of 4,096 places is never too short.
+ * On every refusal the whole list is unchanged (S3.5). A list of 4,096 places is never too short.
  *
- * Defects: 1 image too long (above 262,144 bytes); 2 wrong start; 3 record cut short, unknown tag, or more than 4,096
+ * Defects (S5.1): 1 image too long (above 262,144 bytes); 2 wrong start; 3 record cut short, unknown tag, or more than 4,096
  * records; 4 inner fields; 5 contents; 6 order; 7 overlap.
  */
 
-/* Answers a path with its query, as "/ip/192.0.2.0", from an image. */
+/* Answers a path with its query, as "/ip/192.0.2.0", from an image (S2.1). */
 void rdap_answer(const uint8_t *path, size_t path_len, const uint8_t *image, size_t image_len,
                  uint32_t *list, size_t list_len, uint32_t reply[7]);
 
-/* Ask a relation of a record number, as a relation path would for that block's range; reasons 2, 8, 9 and 0 occur. */
+/* Ask a relation of a record number, as a relation path would for that block's range; reasons 2, 8, 9 and 0
+ * occur (S2.3). */
 void rdap_up(const uint8_t *image, size_t image_len, uint32_t record,
              uint32_t *list, size_t list_len, uint32_t reply[7]);
 void rdap_down(const uint8_t *image, size_t image_len, uint32_t record,
@@ -71,7 +73,7 @@ void rdap_bottom(const uint8_t *image, size_t image_len, uint32_t record,
                  uint32_t *list, size_t list_len, uint32_t reply[7]);
 
 /* The handle or the name of a record, as a part of the image: part[0] is its offset, part[1] its length.
- * Both are 0 if the image is defective or there is no such record. */
+ * Both are 0 if the image is defective or there is no such record (S2.2). */
 void rdap_handle(const uint8_t *image, size_t image_len, uint32_t record, uint32_t part[2]);
 void rdap_name(const uint8_t *image, size_t image_len, uint32_t record, uint32_t part[2]);
 
