@@ -11,9 +11,9 @@ use lib.ListN.{length, take, drop, length-append, length-drop, take-append-drop}
 use lib.Seq.{take-at, length-take-le}
 use borrow.Rule.Slice.PartMut.{putMid}
 use Rattle.numeral.specs.Decimal.{decimalText}
-use Rattle.rdap.specs.declared.answers.Answer.{Answer}
-use Rattle.rdap.specs.Calls.{Reply, kindNumber, listAfter, line}
-use Rattle.rdap.specs.Answered.{replyOf, Answered}
+use Rattle.answers.specs.declared.Answer.{Answer}
+use Rattle.answers.specs.Reply.{Reply, kindNumber, listAfter, line}
+use Rattle.answers.specs.Answered.{replyOf, Answered}
 use Rattle.rdap.specs.Replies.{Consistent}
 use Rattle.lines.specs.Line.{following, spaced, lineText, room, textIn, Lined}
 use Rattle.lines.specs.Writing.{Written, reportedOf}

@@ -13,7 +13,7 @@ use Rattle.pieces.proofs.Tests.{and-left, and-right}
 use Rattle.numeral.specs.Numeral.{digitValue, areDigits, digitsFrom}
 use Rattle.numeral.specs.Decimal.{decimalText}
 use Rattle.numeral.proofs.Decimal.{decimal-digits, decimal-value}
-use Rattle.rdap.specs.Calls.{Reply, line}
+use Rattle.answers.specs.Reply.{Reply, line}
 use Rattle.lines.specs.Line.{following, spaced, lineText, numbersIn}
 
 no-space : (c : ℕ) → ltb (digitValue c) 10 ≡ true → c ≡ 32 → ⊥

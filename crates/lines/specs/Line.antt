@@ -9,7 +9,7 @@ use lib.ListN.{length, take, drop}
 use Rattle.pieces.specs.Split.{split}
 use Rattle.numeral.specs.Numeral.{digitsFrom}
 use Rattle.numeral.specs.Decimal.{decimalText}
-use Rattle.rdap.specs.Calls.{Reply, listAfter, line}
+use Rattle.answers.specs.Reply.{Reply, listAfter, line}
 
 -- numbers as decimals, each after a space
 unfoldable pub following : List ℕ → List ℕ

@@ -5,7 +5,7 @@ use mathlib.Core.Bool.{cond}
 use mathlib.Core.List.{List, _++_}
 use lib.Dec.{eqb}
 use lib.ListN.{length, drop}
-use Rattle.rdap.specs.declared.answers.Answer.{Answer}
+use Rattle.answers.specs.declared.Answer.{Answer}
 
 -- n bytes are written, and the rest is unchanged
 pub record Written (text before after : List ℕ) (n : ℕ) : Type 0 where

@@ -4,11 +4,12 @@ ghost use Prim.Native.Nat.{_+_, _*_, _≤_};
 ghost use mathlib.Core.List.{[], _∷_, _++_};
 ghost use lib.ListN.{length, take, drop};
 ghost use Rattle.numeral.specs.Decimal.{decimalText};
-ghost use Rattle.rdap.specs.Calls.{answerOf, line};
-ghost use Rattle.rdap.specs.Answered.{replyOf};
+ghost use Rattle.answers.specs.Reply.{line};
+ghost use Rattle.rdap.specs.Calls.{answerOf};
+ghost use Rattle.answers.specs.Answered.{replyOf};
 ghost use Rattle.lines.specs.Line.{following, spaced, lineText, Lined};
 ghost use Rattle.lines.specs.Writing.{Written, reportedOf};
-use rdap::Answer;
+use answers::Answer;
 
 // Bytes that every line fits into.
 pub const ROOM: usize = 45100;
@@ -61,7 +62,7 @@ fn put_head(a: Answer, out: &mut [u8]) -> usize
     ensures { λ r. ⌜ Written (spaced (line (replyOf a []))) (now (out .entry)) (now (out .exit)) r × (r ≤ 43) ⌝ }
 {
     let kind = a.kind;
-    let numbers = [a.reason, rdap::kind_number(kind), a.count];
+    let numbers = [a.reason, answers::kind_number(kind), a.count];
     let at = put_number(a.status, out);
     at + put_following(&numbers, &mut out[at..])
 }

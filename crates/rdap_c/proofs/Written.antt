@@ -2,9 +2,9 @@
 use Prim.Native.Nat.{ℕ}
 use mathlib.Core.Path.{_≡_, ap}
 use mathlib.Core.List.{List, []}
-use Rattle.rdap.specs.declared.answers.Answer.{Answer}
-use Rattle.rdap.specs.Calls.{Reply}
-use Rattle.rdap.specs.Answered.{replyOf, Answered}
+use Rattle.answers.specs.declared.Answer.{Answer}
+use Rattle.answers.specs.Reply.{Reply}
+use Rattle.answers.specs.Answered.{replyOf, Answered}
 use Rattle.rdap_c.specs.Numbers.{numbersOf}
 
 pub written : {reply : Reply} {a : Answer} {before after : List ℕ} → Answered reply a before after → numbersOf (replyOf a []) ≡ numbersOf reply

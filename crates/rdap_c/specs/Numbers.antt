@@ -2,7 +2,7 @@
 use Prim.Native.Nat.{ℕ, _-_}
 use mathlib.Core.List.{List, [], _∷_}
 use Rattle.records.specs.declared.Span.{Span}
-use Rattle.rdap.specs.Calls.{Reply}
+use Rattle.answers.specs.Reply.{Reply}
 
 -- status, reason, kind, relation, count, defect, place
 unfoldable pub numbersOf : Reply → List ℕ

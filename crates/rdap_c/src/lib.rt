@@ -3,20 +3,21 @@ ghost use mathlib.Core.Path.{_≡_};
 ghost use mathlib.Core.List.{[]};
 ghost use lib.ListN.{length};
 ghost use Rattle.image.specs.Entries.{spanOf};
-ghost use Rattle.rdap.specs.Calls.{answerOf, relationOf, listAfter};
-ghost use Rattle.rdap.specs.Answered.{replyOf};
+ghost use Rattle.answers.specs.Reply.{listAfter};
+ghost use Rattle.rdap.specs.Calls.{answerOf, relationOf};
+ghost use Rattle.answers.specs.Answered.{replyOf};
 ghost use Rattle.rdap_c.specs.Numbers.{numbersOf, partNumbers};
+use answers::Answer;
 use image::Which;
 use query::Relation;
-use rdap::Answer;
 
 // The numbers of an answer.
 fn numbers(a: Answer) -> [u32; 7]
     ensures { λ r. ⌜ r ≡ numbersOf (replyOf a []) ⌝ }
 {
     let k = a.kind;
-    let kind = rdap::kind_number(k);
-    let relation = rdap::relation_number(k);
+    let kind = answers::kind_number(k);
+    let relation = answers::relation_number(k);
     let status = a.status;
     let reason = a.reason;
     let count = a.count;

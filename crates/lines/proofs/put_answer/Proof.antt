@@ -1,7 +1,7 @@
 -- The line of the reply, where every line has room.
 use native.Mathlib.Omega.{arith}
 use Rattle.rdap.specs.Calls.{answerOf}
-use Rattle.rdap.specs.Answered.{Answered}
+use Rattle.answers.specs.Answered.{Answered}
 use Rattle.rdap.specs.Replies.{Consistent}
 use Rattle.rdap.proofs.Replies.{replies}
 use Rattle.lines.proofs.Lines.{reported-few, reported-are, no-room, line-put}

@@ -1,7 +1,7 @@
 -- The status, and the three numbers after it in the rest.
 use native.Mathlib.Omega.{arith}
-use Rattle.rdap.specs.Calls.{line}
-use Rattle.rdap.specs.Answered.{replyOf}
+use Rattle.answers.specs.Reply.{line}
+use Rattle.answers.specs.Answered.{replyOf}
 use Rattle.lines.specs.Line.{spaced}
 use Rattle.lines.proofs.Writing.{written-both}
 use borrow.Author.Needs.{needs}

@@ -1,6 +1,6 @@
 -- Field by field.
 use mathlib.Core.Path.{refl}
-use Rattle.rdap.specs.Answered.{replyOf}
+use Rattle.answers.specs.Answered.{replyOf}
 use Rattle.rdap_c.specs.Numbers.{numbersOf}
 use borrow.Author.Needs.{needs}
 use Rattle.rdap_c.proofs.numbers.Statement.{statement}

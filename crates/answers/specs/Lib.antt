@@ -1,0 +1,4 @@
+pub mod Reply
+pub mod Answered
+pub mod Told
+pub mod Computing
