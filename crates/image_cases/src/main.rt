@@ -46,10 +46,10 @@ fn verdict(v: Verdict) -> u32 {
 }
 
 fn part(image: &[u8], record: u32, which: Which) {
-    let span = image::part_span(image, record, which);
+    let span = entries::part_span(image, record, which);
     number(span.start as u64);
     write(b" ");
-    write(image::part(image, record, which));
+    write(entries::part(image, record, which));
 }
 
 fn parts(image: &[u8], record: u32) {

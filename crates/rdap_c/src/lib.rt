@@ -30,7 +30,7 @@ fn numbers(a: Answer) -> [u32; 7]
 fn part_numbers(image: &[u8], record_number: u32, which: Which) -> [u32; 2]
     ensures { λ r. ⌜ r ≡ partNumbers (spanOf (now (image .entry)) record_number which) ⌝ }
 {
-    let span = image::part_span(image, record_number, which);
+    let span = entries::part_span(image, record_number, which);
     let start = span.start;
     let end = span.end;
     let length = end - start;

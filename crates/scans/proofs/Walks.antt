@@ -22,7 +22,7 @@ use Rattle.image.specs.Entries.{placeOf}
 use Rattle.image.specs.Index.{tagOf}
 use Rattle.image.specs.declared.Run.{Run}
 use Rattle.image.proofs.Soundness.{counted, few-records, few-bytes}
-use Rattle.image.proofs.Standing.{standing}
+use Rattle.entries.proofs.Standing.{standing}
 use Rattle.image.proofs.Addresses.{low-family, wide-family}
 use Rattle.blocks.specs.Blocks.{Block, blocksFrom}
 use Rattle.blocks.specs.Defects.{accepted}

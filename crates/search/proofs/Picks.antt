@@ -22,7 +22,7 @@ use Rattle.image.specs.Index.{tagOf, Standing, Selected}
 use Rattle.image.specs.declared.Run.{Run}
 use Rattle.image.specs.declared.Which.{Which}
 use Rattle.image.proofs.Soundness.{counted, few-records, few-bytes}
-use Rattle.image.proofs.Standing.{standing-of, text-in-image, place-inside}
+use Rattle.entries.proofs.Standing.{standing-of, text-in-image, place-inside}
 use Rattle.listing.specs.Listing.{Reported}
 use Rattle.listing.specs.declared.Listed.{Listed}
 use Rattle.search.specs.Search.{numbersFrom}

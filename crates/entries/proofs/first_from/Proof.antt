@@ -4,11 +4,11 @@ use native.Mathlib.Omega.{arith}
 use lib.ListN.{length, getD}
 use denote.Ref.{now}
 use borrow.Author.Needs.{needs}
 use Rattle.image.proofs.Soundness.{few-records, few-bytes}
-use Rattle.image.proofs.Standing.{place-inside}
-use Rattle.image.proofs.Tags.{Halved, halve-none, halve-up, halve-down, halve-end}
-use Rattle.image.proofs.first_from.Statement.{statement}
-use Rattle.image.proofs.first_from.Tie as tie
+use Rattle.entries.proofs.Standing.{place-inside}
+use Rattle.entries.proofs.Tags.{Halved, halve-none, halve-up, halve-down, halve-end}
+use Rattle.entries.proofs.first_from.Statement.{statement}
+use Rattle.entries.proofs.first_from.Tie as tie
 
 abbrev Inv-loop : tie.InvT-loop
 Inv-loop image places count tag low₀ high₀ low high = Halved image count tag low high

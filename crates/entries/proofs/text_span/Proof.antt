@@ -1,9 +1,9 @@
 -- The field that is read at the position has the handle or the name (Spans.antt).
 use borrow.Author.Needs.{needs}
 use Rattle.image.specs.declared.Which.the-variants.{Handle, Name}
-use Rattle.image.proofs.Spans.{no-text, text-read, end-inside}
-use Rattle.image.proofs.text_span.Statement.{statement}
-use Rattle.image.proofs.text_span.Tie as tie
+use Rattle.entries.proofs.Spans.{no-text, text-read, end-inside}
+use Rattle.entries.proofs.text_span.Statement.{statement}
+use Rattle.entries.proofs.text_span.Tie as tie
 
 read-requires : tie.Need-read-requires
 read-requires c κs = search needs

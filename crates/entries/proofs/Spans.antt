@@ -13,16 +13,16 @@ use Rattle.fields.specs.Heads.{field-inside}
 use Rattle.fields.specs.declared.Field.{Field}
 use Rattle.fields.specs.declared.Field.the-variants.{Whole, Short}
 use Rattle.records.specs.declared.Span.{Span}
 use Rattle.image.specs.Image.{Image, sound, defective, imageOf}
 use Rattle.image.specs.Part.{recordsOf, textOfFirst}
 use Rattle.image.specs.Place.{verdictOf}
 use Rattle.image.specs.Entries.{placeOf, textIn, textSpan, spanOf, PartSpan, SpanIsPart}
 use Rattle.image.specs.Index.{Standing}
 use Rattle.image.specs.declared.Which.{Which}
 use Rattle.image.specs.declared.Verdict.{Verdict}
 use Rattle.image.specs.declared.Verdict.the-variants.{Sound, Defective}
 use Rattle.image.proofs.Soundness.{counted}
-use Rattle.image.proofs.Standing.{standing-of, text-in-image}
+use Rattle.entries.proofs.Standing.{standing-of, text-in-image}
 
 -- the field at a position, as a reader finds it
 module _ (s : List ℕ) (at : ℕ) (f : Field) (e : f ≡ fieldAt s at (length s)) where

@@ -1,9 +1,9 @@
 -- From the first record whose tag is not below first up to the first whose tag is above last.
 use mathlib.Core.Path.{refl}
 use borrow.Author.Needs.{needs}
-use Rattle.image.proofs.Tags.{run-between}
-use Rattle.image.proofs.run_of.Statement.{statement}
-use Rattle.image.proofs.run_of.Tie as tie
+use Rattle.entries.proofs.Tags.{run-between}
+use Rattle.entries.proofs.run_of.Statement.{statement}
+use Rattle.entries.proofs.run_of.Tie as tie
 
 first-from-requires : tie.Need-first-from-requires
 first-from-requires c κs = search needs

@@ -11,14 +11,14 @@ use lib.ListN.{drop, getD}
 use Rattle.records.specs.Record.{Record}
 use Rattle.records.specs.Judge.{inOrder}
 use Rattle.records.proofs.Accepted.{follows-after}
 use Rattle.image.specs.Image.{imageOf}
 use Rattle.image.specs.Part.{recordsOf}
 use Rattle.image.specs.Place.{verdictOf}
 use Rattle.image.specs.Index.{tagOf, Indexed, FirstFrom, RunOf}
 use Rattle.image.specs.declared.Verdict.the-variants.{Sound}
 use Rattle.image.proofs.Sound.{Later, done, next, records-later}
 use Rattle.image.proofs.Soundness.{is-sound}
-use Rattle.image.proofs.Standing.{standing-of, tag-here}
+use Rattle.entries.proofs.Standing.{standing-of, tag-here}
 
 is-true : (b : Bool) → T b → b ≡ true
 is-true true t = refl

@@ -15,16 +15,16 @@ use Rattle.records.specs.Record.{Record, isBlock, widthOf, rangeFrom}
 use Rattle.records.specs.Place.{bytesOf, Inside}
 use Rattle.records.proofs.Shapes.{a-block}
 use Rattle.records.proofs.Laid.{Laid, laid}
 use Rattle.image.specs.Image.{imageOf}
 use Rattle.image.specs.Part.{recordsOf, textOf}
 use Rattle.image.specs.Place.{verdictOf}
 use Rattle.image.specs.Entries.{placeOf, textIn, textSpan}
 use Rattle.image.specs.Index.{tagOf, Standing, Indexed}
 use Rattle.image.specs.declared.Which.{Which}
 use Rattle.image.specs.declared.Which.the-variants.{Handle, Name}
 use Rattle.image.specs.declared.Verdict.the-variants.{Sound}
 use Rattle.image.proofs.Soundness.{counted}
-use Rattle.image.proofs.Numbered.{stands-here}
+use Rattle.entries.proofs.Numbered.{stands-here}
 
 -- the range read at a position
 range-read : (s : List ℕ) (at w : ℕ) → numbers (rangeAt s at w) ≡ rangeFrom w (slice at (at + 2 * w) s)

@@ -2,13 +2,13 @@
 use native.Mathlib.Omega.{arith}
 use denote.Ref.{now}
 use borrow.Author.Needs.{needs}
 use Rattle.image.specs.Image.{imageOf}
 use Rattle.image.specs.Index.{Indexed}
 use Rattle.image.proofs.Soundness.{few-records, few-bytes}
-use Rattle.image.proofs.Standing.{place-inside}
-use Rattle.image.proofs.Spans.{defective-none, span-none, span-beyond, span-some}
-use Rattle.image.proofs.part_span.Statement.{statement}
-use Rattle.image.proofs.part_span.Tie as tie
+use Rattle.entries.proofs.Standing.{place-inside}
+use Rattle.entries.proofs.Spans.{defective-none, span-none, span-beyond, span-some}
+use Rattle.entries.proofs.part_span.Statement.{statement}
+use Rattle.entries.proofs.part_span.Tie as tie
 
 index-requires : tie.Need-index-requires
 index-requires c κs = search needs

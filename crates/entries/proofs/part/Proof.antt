@@ -4,8 +4,8 @@ use native.Mathlib.Omega.{arith}
 use borrow.Author.Needs.{needs}
 use Rattle.fields.specs.Slices.{part-slice}
 use Rattle.records.specs.declared.Span.{Span}
-use Rattle.image.proofs.part.Statement.{statement}
-use Rattle.image.proofs.part.Tie as tie
+use Rattle.entries.proofs.part.Statement.{statement}
+use Rattle.entries.proofs.part.Tie as tie
 
 part-span-requires : tie.Need-part-span-requires
 part-span-requires c κs = search needs

@@ -1,0 +1,5 @@
+pub mod EmptyPart
+pub mod Numbered
+pub mod Standing
+pub mod Spans
+pub mod Tags

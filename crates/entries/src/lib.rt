@@ -1,0 +1,85 @@
+// The records of a sound image by their tags and numbers: those with a tag, and the handle or the name of one.
+ghost use mathlib.Core.Path.{_≡_};
+ghost use Prim.Native.Nat.{_≤_};
+ghost use Rattle.image.specs.Image.{imageOf};
+ghost use Rattle.image.specs.Part.{excerptOf, PartFrom};
+ghost use Rattle.image.specs.Entries.{textSpan, spanOf, PartSpan};
+ghost use Rattle.image.specs.Index.{Indexed, FirstFrom, RunOf};
+use fields::Field;
+use fields::read;
+use image::Run;
+use image::Verdict;
+use image::Which;
+use image::index;
+use records::Span;
+use records::handle_span;
+use records::name_span;
+
+// The number of the first record of a sound image whose tag is not below this one; their number, if there is none. By halves, since the
+// records are sorted by tag.
+pub fn first_from(image: &[u8], places: &[u32; 4096], count: u32, tag: u8) -> u32
+    requires { ⌜ Indexed (now image) count (now places) ⌝ }
+    ensures { λ r. ⌜ FirstFrom (now (image .entry)) count tag r ⌝ }
+{
+    let mut low: u32 = 0;
+    let mut high = count;
+    while low < high {
+        let i = low + (high - low) / 2;
+        if image[places[i as usize] as usize] < tag {
+            low = i + 1;
+        } else {
+            high = i;
+        }
+    }
+    low
+}
+
+// The records of a sound image with a tag from first to last.
+pub fn run_of(image: &[u8], places: &[u32; 4096], count: u32, first: u8, last: u8) -> Run
+    requires { ⌜ Indexed (now image) count (now places) × (first ≤ last) × (last ≤ 21) ⌝ }
+    ensures { λ r. ⌜ (r .first ≡ first) × (r .last ≡ last) × RunOf (now (image .entry)) count r ⌝ }
+{
+    Run {
+        first,
+        last,
+        from: first_from(image, places, count, first),
+        until: first_from(image, places, count, last + 1),
+    }
+}
+
+// Where the handle or the name of the record at a position is; from 0 up to 0 if no field stands there.
+pub fn text_span(image: &[u8], at: usize, which: Which) -> Span
+    ensures { λ r. ⌜ r ≡ textSpan which (now (image .entry)) at ⌝ }
+{
+    let Field::Whole { tag, start, end } = read(image, at) else {
+        return Span { start: 0, end: 0 };
+    };
+    match which {
+        Which::Handle => handle_span(image, tag, start, end),
+        Which::Name => name_span(image, tag, start, end),
+    }
+}
+
+// Where the handle or the name of a record is in the image; from 0 up to 0 if the image is defective or there is no such record.
+pub fn part_span(image: &[u8], number: u32, which: Which) -> Span
+    ensures { λ r. ⌜ PartSpan (now (image .entry)) number which r ⌝ }
+{
+    let mut places = [0u32; 4096];
+    let Verdict::Sound(count) = index(image, &mut places) else {
+        return Span { start: 0, end: 0 };
+    };
+    if count <= number {
+        return Span { start: 0, end: 0 };
+    }
+    text_span(image, places[number as usize] as usize, which)
+}
+
+// The handle or the name of a record as a part of the image; empty if the image is defective or there is no such record.
+pub fn part(image: &[u8], number: u32, which: Which) -> &[u8]
+    ensures { λ r. ⌜ PartFrom (image .entry) (spanOf (now (image .entry)) number which .start) (excerptOf (imageOf (now (image .entry))) number which) r ⌝ }
+{
+    let span = part_span(image, number, which);
+    let start = span.start;
+    let end = span.end;
+    &image[start..end]
+}
