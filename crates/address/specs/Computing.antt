@@ -2,8 +2,7 @@
 use Rattle.address.specs.Lists.{every, contains, found}
 use Rattle.address.specs.Number.{valueFrom, value, atMost}
 use Rattle.address.specs.Ranges.{single, covers, equals, strictlyCovers, strictlyInside, overlaps, wellFormed, sortsAfter, crosses}
-use Rattle.address.specs.Prefix.{prefixRange}
 
 unfoldable pub computing : Unit {0}
-unfolding every contains found valueFrom value atMost single covers equals strictlyCovers strictlyInside overlaps wellFormed sortsAfter crosses prefixRange
+unfolding every contains found valueFrom value atMost single covers equals strictlyCovers strictlyInside overlaps wellFormed sortsAfter crosses
 computing = tt

@@ -2,7 +2,6 @@ pub mod Lists
 pub mod Number
 pub mod Words
 pub mod Ranges
-pub mod Prefix
 pub mod Address
 pub mod Positions
 pub mod Computing

@@ -5,8 +5,8 @@ use native.Mathlib.Nat.{one-mul}
 use native.Mathlib.Omega.{arith}
 use lib.Pow.{shl-exact, pow-pos, pow-mono}
 use borrow.Author.Needs.{needs}
-use Rattle.address.proofs.power_of_two.Statement.{statement}
-use Rattle.address.proofs.power_of_two.Tie as tie
+use Rattle.prefix.proofs.power_of_two.Statement.{statement}
+use Rattle.prefix.proofs.power_of_two.Tie as tie
 
 shl-result : tie.Need-shl-result
 shl-result c = search needs

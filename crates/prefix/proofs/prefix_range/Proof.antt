@@ -5,12 +5,12 @@ use Prim.Native.Nat.{ℕ, _+_, _-_, _*_, _^_, _%_, _≤_, _<_}
 use native.Mathlib.Omega.{arith}
 use lib.ListN.{length, getD, length-set}
 use lib.Seq.{getD-set-other}
 use Rattle.address.specs.Number.{value, Bytes}
 use Rattle.address.proofs.Bytes.{array-bytes}
-use Rattle.address.proofs.LowBits as low
+use Rattle.prefix.proofs.LowBits as low
 use borrow.Author.Needs.{needs}
-use Rattle.address.proofs.prefix_range.Statement.{statement}
-use Rattle.address.proofs.prefix_range.Tie as tie
+use Rattle.prefix.proofs.prefix_range.Statement.{statement}
+use Rattle.prefix.proofs.prefix_range.Tie as tie
 
 abbrev Inv-loop : tie.InvT-loop
 Inv-loop first bits l last₀ left₀ i₀ last left i =
