@@ -7,20 +7,20 @@ use mathlib.Core.List.{List, [], _∷_, List·Memᴰ·head, List·Memᴰ·tail, 
 use native.Mathlib.Omega.{arith}
 use borrow.Author.Tests.{eq-eqb}
 use lib.Arith.{lt-of-le-ne}
-use lib.Dec.{T, T-not, not-T, leb, ltb, eqb, ltb→lt, lt→ltb, eqb→eq, eqb-refl}
+use lib.Dec.{T, T-not, not-T, ltb, eqb, ltb→lt, lt→ltb, eqb→eq, eqb-refl}
 use lib.ListN.{length, drop}
 use Rattle.address.specs.Lists.{_∈_, keep, any}
-use Rattle.address.specs.Number.{value}
 use Rattle.address.specs.Ranges.{wellFormed, sortsAfter, crosses}
-use Rattle.name.specs.Texts.{goodText}
-use Rattle.records.specs.Record.{Record, isBlock, rangeOf, goodName, goodContents, sortedAfter, follows, crossesBlock}
+use Rattle.records.specs.Record.{Record, isBlock, rangeOf, goodContents, sortedAfter, follows, crossesBlock}
 use Rattle.records.specs.Judge.{inOrder, crossesAny}
+use Rattle.records.proofs.Accepted.{first-last}
 use Rattle.image.specs.Image.{sound, imageOf}
 use Rattle.image.proofs.Sound.{Accepted, Later, done, next, records-later}
 use Rattle.blocks.specs.Blocks.{Block, blocksFrom, blocksOf}
 use Rattle.blocks.specs.Forest.{Registered}
 use Rattle.blocks.specs.Defects as Defects
 use Rattle.blocks.specs.Defects.{admissible, acceptedAfter, accepted}
+use Rattle.blocks.proofs.Geometry.{proper}
 use Rattle.blocks.proofs.Tests.{T-and, T-or, or-left, or-right, test, is-true, is-false, each}
 
 -- The earlier blocks of one family
@@ -121,10 +121,7 @@ module _ (family : ℕ) (known : T (isBlock family)) where
       go (inr n) rest = or-right (crossesBlock a r) (crossesAny earlier r) (rest (rw (is-false (eqb (a .tag) family) (T-not (eqb (a .tag) family) n)) at t))
 
   well-formed : (r : Record) → T (goodContents r) → T (wellFormed (rangeOf r))
-  unfolding goodContents
-  well-formed r t =
-      T-and (leb (value (r .status)) 1) (wellFormed (rangeOf r)) .0
-      (T-and (goodText 0x21 (r .handle) && goodName (r .tag) (r .name)) (leb (value (r .status)) 1 && wellFormed (rangeOf r)) .0 t .1) .1
+  well-formed r t = proper (rangeOf r) .1 (first-last r (is-true (goodContents r) t))
 
   block-admissible : {earlier : List Record} → Falling earlier → (r : Record) → r .tag ≡ family → Accepted earlier r → T (admissible (before earlier) (blockAt (length earlier) r))
   unfolding admissible

@@ -22,7 +22,7 @@ pub fn report(hits: &[u32], list: &mut [u32]) -> Listed
         list[i] = hits[i];
         i += 1;
     }
-    if room < need {
+    if written < need {
         return Listed::Full(need as u32);
     }
     Listed::Done(need as u32)

@@ -1,7 +1,9 @@
 -- `bottom::children_leave` meets its contract: the pass for a gap over the rest, from the first address that is free, gives the answer.
-use Prim.Native.Nat.{_-_, _<_}
+use Prim.Native.Nat.{_-_, _<_, _≤_}
 use mathlib.Core.Path.{sym, _∙_}
 use native.Mathlib.Omega.{arith}
+use lib.ListN.{getD}
+use denote.Ref.{now}
 use borrow.Author.Tests.{not-true, not-false, leb-false}
 use Rattle.address.specs.Words.{numberOf}
 use Rattle.blocks.specs.Scans.{gapPass}
@@ -24,6 +26,15 @@ abbrev μ-loop : tie.MeasureT-loop
 -- the child of this turn
 child : (c : tie.In-loop Inv-loop μ-loop) → c .before .loop .j < c .before .before .before .before .before .args .n
 child c = child-known (c .before .before .before .before .before .pre .0) (c .before .loop .inv) (c .loop-test .taken)
+
+-- its link leads on, and not past the blocks
+leads : (c : tie.In-loop Inv-loop μ-loop)
+    → (c .before .loop .j < getD (now (c .before .before .before .before .before .args .links)) (c .before .loop .j) 0)
+    × (getD (now (c .before .before .before .before .before .args .links)) (c .before .loop .j) 0 ≤ 4096)
+leads c =
+    let p = c .before .before .before .before .before .pre .0 in
+    let k = p .linked (c .before .loop .j) (omega arith) (omega (arith, child c, p .gathered .counted)) in
+    (k .ahead, omega (arith, k .upto, p .gathered .counted, p .gathered .few))
 
 width-of-requires : tie.Need-width-of-requires Inv-loop μ-loop
 width-of-requires c κs = search needs
@@ -98,26 +109,10 @@ element-copy-out-j : tie.Need-element-copy-out-j Inv-loop μ-loop
 element-copy-out-j c = let few = c .before .before .before .before .before .before .before .before .before .before .before .before .before .before .pre .0 .gathered .few in let known = child (c .before .before .before .before .before .before .before .before .before) in search needs
 
 cast-j : tie.Need-cast-j Inv-loop μ-loop
-cast-j c =
-    let p = c .before .before .before .before .before .before .before .before .before .before .before .before .before .before .before .pre .0 in
-    let all = p .gathered .counted in
-    let few = p .gathered .few in
-    let known = child (c .before .before .before .before .before .before .before .before .before .before) in
-    let link = p .linked (c .before .before .before .before .before .before .before .before .before .before .before .loop .j) (omega arith) (omega arith) in
-    let up = link .upto in
-    let ahead = link .ahead in
-    omega arith
+cast-j c = let k = leads (c .before .before .before .before .before .before .before .before .before .before) in omega arith
 
 loop-less : tie.Need-loop-less Inv-loop μ-loop
-loop-less c =
-    let p = c .before .before .before .before .before .before .before .before .before .before .before .before .before .before .before .pre .0 in
-    let all = p .gathered .counted in
-    let few = p .gathered .few in
-    let known = child (c .before .before .before .before .before .before .before .before .before .before) in
-    let link = p .linked (c .before .before .before .before .before .before .before .before .before .before .before .loop .j) (omega arith) (omega arith) in
-    let up = link .upto in
-    let ahead = link .ahead in
-    omega arith
+loop-less c = let k = leads (c .before .before .before .before .before .before .before .before .before .before) in omega arith
 
 loop-again : tie.Need-loop-again Inv-loop μ-loop
 loop-again c = walk-next (c .before .before .before .before .before .before .before .before .before .before .before .before .before .before .before .pre .0) (c .before .before .before .before .before .before .before .before .before .before .before .loop .inv) (c .before .before .before .before .before .before .before .before .before .before .loop-test .taken) (c .before .before .before .before .before .before .before .before .before .before .before .before .before .width-of .ensures .0) (c .before .before .before .before .before .before .before .before .words-at .ensures) (c .before .before .before .before .before .before .before .words-at-most .ensures) (not-false _ (c .before .before .before .before .before .before .if1 .left)) (c .before .before .before .before .before .words-at2 .ensures) (c .before .before .before .before .words-at-most2 .ensures) (c .before .before .before .if2 .left) (c .before .greater .ensures ∙ rw (c .before .before .next .ensures))

@@ -67,7 +67,9 @@ returns : tie.Need-returns Inv-loop μ-loop
 returns c =
     let a = c .before .before .before .before .args in
     let l = c .before .before .loop in
-    full-reply (now (a .hits)) (now (a .list)) (l .i) (c .if2 .taken) (⊎-elim (λ w. omega arith) (λ w. omega arith) (c .before .before .before .if1 .came)) (l .inv .4)
+    let came = c .before .before .before .if1 .came in
+    let less = c .if2 .taken in
+    full-reply (now (a .hits)) (now (a .list)) (l .i) (⊎-elim (λ w. omega arith) (λ w. omega arith) came) (⊎-elim (λ w. omega arith) (λ w. omega arith) came) (l .inv .4)
 
 cast-t16 : tie.Need-cast-t16 Inv-loop μ-loop
 cast-t16 c = search needs
@@ -79,7 +81,9 @@ returns-2 : tie.Need-returns-2 Inv-loop μ-loop
 returns-2 c =
     let a = c .before .before .before .before .args in
     let l = c .before .before .loop in
-    done-reply (now (a .hits)) (now (a .list)) (l .i) (c .if2 .left) (⊎-elim (λ w. omega arith) (λ w. omega arith) (c .before .before .before .if1 .came)) (l .inv .4)
+    let came = c .before .before .before .if1 .came in
+    let all = c .if2 .left in
+    done-reply (now (a .hits)) (now (a .list)) (l .i) (⊎-elim (λ w. omega arith) (λ w. omega arith) came) (⊎-elim (λ w. omega arith) (λ w. omega arith) came) (l .inv .4)
 
 pub report-spec : {M : Type 1} → statement M
 report-spec =
