@@ -46,9 +46,9 @@ letters() {
     head -c "$1" /dev/zero | tr '\0' a
 }
 
-for image in "$vectors"/*.image; do
-    name=$(basename "$image" .image)
-    expect "$name" "$vectors/$name.paths" "$image" "$vectors/$name.expected"
+for paths in "$vectors"/*.paths "$vectors"/changes/*/*.paths; do
+    name=${paths%.paths}
+    expect "${name#"$vectors/"}" "$paths" "$name.image" "$name.expected"
 done
 
 campus=$vectors/campus.image

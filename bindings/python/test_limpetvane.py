@@ -22,13 +22,15 @@ def line(call):
 
 class Calls(unittest.TestCase):
     def test_vectors(self):
-        for name in ("s", "small", "campus", "rfc", "empty", "defective", "random1", "random2", "random3"):
-            image = (VECTORS / f"{name}.image").read_bytes()
-            paths = (VECTORS / f"{name}.paths").read_bytes().split(b"\n")[:-1]
-            expected = (VECTORS / f"{name}.expected").read_text().split("\n")[:-1]
+        files = sorted(VECTORS.rglob("*.paths"))
+        self.assertIn(VECTORS / "campus.paths", files)
+        for file in files:
+            image = file.with_suffix(".image").read_bytes()
+            paths = file.read_bytes().split(b"\n")[:-1]
+            expected = file.with_suffix(".expected").read_text().split("\n")[:-1]
             self.assertEqual(len(paths), len(expected))
             for path, wanted in zip(paths, expected):
-                self.assertEqual(line(lambda: LIBRARY.answer(path, image)), wanted, (name, path))
+                self.assertEqual(line(lambda: LIBRARY.answer(path, image)), wanted, (file, path))
 
     def test_relations(self):
         image = (VECTORS / "campus.image").read_bytes()

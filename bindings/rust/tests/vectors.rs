@@ -1,13 +1,19 @@
 //! The vectors of tests/vectors and the image of S13.3, through the safe functions.
 use limpetvane::*;
 use std::fs;
+use std::path::{Path, PathBuf};
 
 const EXAMPLE: [u8; 30] = [
     0x01, 0x00, 0x01, 0x01, 0x12, 0x00, 0x17, 0x20, 0x00, 0x08, 0, 0, 0, 0x0C, 0, 0, 0, 0x0F, 0x21, 0x00, 0x01, 0x41, 0x22, 0x00, 0x01, 0x42, 0x23, 0x00, 0x01, 0x01,
 ];
 
-fn vector(name: &str) -> Vec<u8> {
-    fs::read(format!("{}/../../tests/vectors/{name}", env!("CARGO_MANIFEST_DIR"))).expect(name)
+/// The files of paths below a folder.
+fn paths_below(folder: &Path) -> Vec<PathBuf> {
+    let entries = fs::read_dir(folder).expect("a folder").map(|entry| entry.expect("an entry").path());
+    let (folders, files): (Vec<PathBuf>, Vec<PathBuf>) = entries.partition(|path| path.is_dir());
+    let mut found: Vec<PathBuf> = files.into_iter().filter(|file| file.extension().is_some_and(|end| end == "paths")).collect();
+    found.extend(folders.iter().flat_map(|folder| paths_below(folder)));
+    found
 }
 
 fn number(kind: Option<Kind>) -> u32 {
@@ -37,13 +43,16 @@ fn line(answer: Result<Answer, Refusal>) -> String {
 
 #[test]
 fn vectors() {
-    for name in ["s", "small", "campus", "rfc", "empty", "defective", "random1", "random2", "random3"] {
-        let (image, paths) = (vector(&format!("{name}.image")), vector(&format!("{name}.paths")));
-        let expected = String::from_utf8(vector(&format!("{name}.expected"))).unwrap();
+    let files = paths_below(&Path::new(env!("CARGO_MANIFEST_DIR")).join("../../tests/vectors"));
+    assert!(files.iter().any(|file| file.ends_with("campus.paths")));
+    for file in files {
+        let read = |end: &str| fs::read(file.with_extension(end)).expect(end);
+        let (image, paths) = (read("image"), read("paths"));
+        let expected = String::from_utf8(read("expected")).unwrap();
         let paths: Vec<&[u8]> = paths[..paths.len() - 1].split(|b| *b == b'\n').collect();
         assert_eq!(paths.len(), expected.lines().count());
         for (path, wanted) in paths.iter().zip(expected.lines()) {
-            assert_eq!(line(answer(path, &image)), wanted, "{name} {}", String::from_utf8_lossy(path));
+            assert_eq!(line(answer(path, &image)), wanted, "{} {}", file.display(), String::from_utf8_lossy(path));
         }
     }
 }

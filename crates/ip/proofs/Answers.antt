@@ -17,11 +17,23 @@ use Rattle.address.specs.Address.{number, addressAt, number-at}
 use Rattle.address.specs.declared.Address.{Address}
 use Rattle.pieces.specs.Split.{split}
 use Rattle.pieces.proofs.Found.{found-is, found-none, none-some, cond-some}
-use Rattle.ip.specs.Ip.{exactly, octets, orElse, groups, side, elided, elision, ipv4, ipv6, addressOf}
+use Rattle.ip.specs.Ip.{exactly, octets, orElse, groups, side, elided, elision, ipv4, ipv6, withoutZone, addressOf}
 use Rattle.ip.specs.Answer.{answer}
 use Rattle.ip.specs.declared.Family.{Family}
 use Rattle.ip.specs.declared.Family.the-variants.{V4, V6, Malformed}
 use Rattle.ip.specs.declared.IpAddress.{IpAddress}
+
+-- ---- the two families
+
+-- IPv4 text is read first, as it stands
+pub address-four : (s a : List ℕ) → ipv4 s ≡ some a → addressOf s ≡ some a
+unfolding addressOf orElse
+address-four s a e = ap (λ (o : Option (List ℕ)). orElse o (ipv6 (withoutZone s))) e
+
+-- any other as IPv6 text, without its zone
+pub address-six : (s : List ℕ) → ipv4 s ≡ none → addressOf s ≡ ipv6 (withoutZone s)
+unfolding addressOf orElse
+address-six s e = ap (λ (o : Option (List ℕ)). orElse o (ipv6 (withoutZone s))) e
 
 -- ---- the three cases
 
@@ -29,20 +41,20 @@ module _ (s : List ℕ) (ok : Bool) (four : List ℕ) (is : found ok four ≡ ip
   -- the last four bytes, after twelve zeros
   pub answer-four : (bytes : List ℕ) → ok ≡ true → length four ≡ 4 → length bytes ≡ 16 → take 16 bytes ≡ replicate 12 0 ++ four
       → record { family = V4; address = record { bytes = bytes } } ≡ answer (addressOf s)
-  unfolding answer addressOf orElse
+  unfolding answer
   answer-four bytes t l k e =
       let b : bytes ≡ replicate 12 0 ++ four = sym (take-all 16 bytes (omega arith)) ∙ e in
-      rw (found-is is t, l, take-all 4 four (omega arith), b)
+      rw (address-four s four (found-is is t), l, take-all 4 four (omega arith), b)
 
-  module _ (none-four : ok ≡ false) (ok₂ : Bool) (six : List ℕ) (is₂ : found ok₂ six ≡ ipv6 s) where
+  module _ (none-four : ok ≡ false) (ok₂ : Bool) (six : List ℕ) (is₂ : found ok₂ six ≡ ipv6 (withoutZone s)) where
     pub answer-six : ok₂ ≡ true → length six ≡ 16 → record { family = V6; address = record { bytes = six } } ≡ answer (addressOf s)
-    unfolding answer addressOf orElse
+    unfolding answer
     answer-six t l =
-        rw (found-none four is none-four, found-is is₂ t, l, take-all 16 six (omega arith))
+        rw (address-six s (found-none four is none-four), found-is is₂ t, l, take-all 16 six (omega arith))
 
     pub answer-none : ok₂ ≡ false → record { family = Malformed; address = record { bytes = replicate 16 0 } } ≡ answer (addressOf s)
-    unfolding answer addressOf orElse
-    answer-none f = rw (found-none four is none-four, found-none six is₂ f)
+    unfolding answer
+    answer-none f = rw (address-six s (found-none four is none-four), found-none six is₂ f)
 
 -- ---- the number of bytes
 
@@ -84,7 +96,7 @@ either-wide (some x) p a f g e h = absurd (h (f e))
 -- an address that has not four bytes has sixteen
 pub address-wide : (s a : List ℕ) → addressOf s ≡ some a → (length a ≡ 4 → ⊥) → length a ≡ 16
 unfolding addressOf ipv4
-address-wide s a e h = either-wide (ipv4 s) (ipv6 s) a (exactly-wide 4 (octets (split (code ".") s)) a) (ipv6-wide s a) e h
+address-wide s a e h = either-wide (ipv4 s) (ipv6 (withoutZone s)) a (exactly-wide 4 (octets (split (code ".") s)) a) (ipv6-wide (withoutZone s) a) e h
 
 -- ---- what a caller learns
 

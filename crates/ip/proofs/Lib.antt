@@ -2,3 +2,5 @@ mod Addresses
 mod GroupLaws
 mod Elisions
 pub mod Answers
+pub mod Foreign
+pub mod Zones

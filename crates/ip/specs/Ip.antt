@@ -1,4 +1,4 @@
--- S8.1: IPv4address and IPv6address of RFC 3986, section 3.2.2, as the bytes of the address, high byte first; none where the text is malformed.
+-- S8.1, S8.5: IPv4address and IPv6address of RFC 3986, section 3.2.2, as the bytes of the address, high byte first; none where the text is malformed.
 use Prim.Native.Nat.{ℕ, suc, _+_, _-_, _/_, _%_}
 use Prim.Native.Char.{code}
 use mathlib.Core.List.{List, [], _∷_, _++_}
@@ -9,7 +9,7 @@ use lib.ListN.{length, take, drop, replicate}
 use Rattle.numeral.specs.Numeral.{decimal, h16}
 use Rattle.numeral.specs.declared.Number.{Number}
 use Rattle.numeral.specs.declared.Number.the-variants.{Value, Malformed}
-use Rattle.pieces.specs.Split.{split}
+use Rattle.pieces.specs.Split.{split, before, after}
 
 -- the bytes a in front of others, if there are any others
 unfoldable pub prefixed : List ℕ → Option (List ℕ) → Option (List ℕ)
@@ -92,6 +92,10 @@ ipv6 s =
     let full : Option (List ℕ) = exactly 16 (groups true (split (code ":") s)) in
     cond (ltb at (length s)) short full
 
--- of either family; IPv4 text never names an IPv6 address
+-- S8.5: the zone identifier dropped: the first percent sign and all after it, provided that at least one byte follows
+unfoldable pub withoutZone : List ℕ → List ℕ
+withoutZone s = cond (leb 1 (length (after (code "%") s))) (before (code "%") s) s
+
+-- of either family; IPv4 text never names an IPv6 address, and it has no zone
 unfoldable pub addressOf : List ℕ → Option (List ℕ)
-addressOf s = orElse (ipv4 s) (ipv6 s)
+addressOf s = orElse (ipv4 s) (ipv6 (withoutZone s))

@@ -1,16 +1,17 @@
--- Laws of numerals: the next byte is a digit, is none, or there is none; a number above max stays above it; a number that was read is at most max.
+-- Laws of numerals: the next byte is a digit, is none, or there is none; a number above max stays above it; a number that was read is at most max; a text with a byte that is no digit is no number.
 use Prim.Native.Nat.{ℕ, _+_, _*_, _≤_, _<_, _^_}
 use Prim.Native.Char.{code}
 use mathlib.Core.Path.{_≡_, refl}
 use mathlib.Core.List.{List, [], _∷_}
-use mathlib.Core.Bool.{Bool, true, false, cond, false≢true, _&&_}
+use mathlib.Core.Bool.{Bool, true, false, cond, false≢true, _&&_, _||_}
 use native.Mathlib.Omega.{arith}
 use native.Mathlib.Nat.{mul-le-mul-left}
 use native.Mathlib.Numerals.{add-one}
-use lib.Dec.{leb, eqb}
+use lib.Dec.{leb, ltb, eqb}
 use lib.ListN.{length, getD, drop, drop-of-length-le}
 use lib.Seq.{drop-cons}
-use borrow.Author.Tests.{le-leb, lt-leb, lt-ltb, le-ltb, leb-true}
+use borrow.Author.Tests.{le-leb, lt-leb, lt-ltb, le-ltb, leb-true, eqb-true}
+use Rattle.address.specs.Lists.{contains}
 use Rattle.pieces.proofs.Tests.{and-right, and-false}
 use Rattle.numeral.specs.Numeral.{digitValue, areDigits, digitsFrom, numeralFrom, numeral, leadingZero, decimal, h16}
 use Rattle.numeral.specs.declared.Number.{Number}
@@ -103,3 +104,33 @@ decimal-le max s v e = numeral-le 10 max s v (not-malformed (leadingZero s) (num
 pub h16-le : (s : List ℕ) (v : ℕ) → h16 s ≡ Value v → v ≤ 65535
 unfolding h16
 h16-le s v e = numeral-le 16 65535 s v (well-formed (leb (length s) 4) (numeral 16 65535 s) v e)
+
+-- a text that holds a byte x which is no digit of the base
+module _ (base x : ℕ) (none : base ≤ digitValue x) where
+  digits-not : (s : List ℕ) → contains x s ≡ true → areDigits base s ≡ false
+  unfolding contains areDigits
+  digits-not [] e = absurd (false≢true e)
+  digits-not (c ∷ s) e = by-first (eqb c x) refl e (digits-not s)
+    where
+      by-first : (b : Bool) → eqb c x ≡ b → b || contains x s ≡ true → (contains x s ≡ true → areDigits base s ≡ false)
+          → ltb (digitValue c) base && areDigits base s ≡ false
+      by-first true q h f = rw (eqb-true c x q, le-ltb (digitValue x) base none)
+      by-first false q h f = rw (f h) (and-false (ltb (digitValue c) base))
+
+  pub numeral-not : (max : ℕ) (s : List ℕ) → contains x s ≡ true → numeral base max s ≡ Malformed
+  unfolding numeral numeralFrom
+  numeral-not max [] e = refl
+  numeral-not max (c ∷ s) e = rw (digits-not (c ∷ s) e)
+
+either-way : (b : Bool) → cond b Malformed Malformed ≡ Malformed
+either-way true = refl
+either-way false = refl
+
+module _ (x : ℕ) (s : List ℕ) (has : contains x s ≡ true) where
+  pub decimal-not : (max : ℕ) → 10 ≤ digitValue x → decimal max s ≡ Malformed
+  unfolding decimal
+  decimal-not max h = rw (numeral-not 10 x h max s has) (either-way (leadingZero s))
+
+  pub h16-not : 16 ≤ digitValue x → h16 s ≡ Malformed
+  unfolding h16
+  h16-not h = rw (numeral-not 16 x h 65535 s has) (either-way (leb (length s) 4))

@@ -2,12 +2,14 @@
 use Prim.Native.Nat.{ℕ, suc, _+_, _-_, _≤_, _<_}
 use mathlib.Core.Path.{_≡_, refl, _∙_}
 use mathlib.Core.List.{List, [], _∷_, _++_, append-assoc, append-nil}
-use mathlib.Core.Bool.{Bool, true, false, cond}
+use mathlib.Core.Bool.{Bool, true, false, cond, false≢true, _||_}
 use native.Mathlib.Omega.{arith}
 use native.Mathlib.Numerals.{add-one}
 use lib.Dec.{eqb}
 use lib.ListN.{length, getD, take, drop, drop-of-length-le, length-drop}
 use lib.Seq.{take-suc, take-all, drop-cons}
+use borrow.Author.Tests.{eqb-true}
+use Rattle.address.specs.Lists.{any, contains}
 use Rattle.pieces.specs.Split.{joinFirst, split, FirstPiece}
 
 join-nil : (b : Bool) (a : List ℕ) (r : List (List ℕ))
@@ -39,6 +41,26 @@ pub split-cons : (sep : ℕ) (s : List ℕ) → (p : List ℕ) × (ps : List (Li
 unfolding split
 split-cons sep [] = ([], [], refl)
 split-cons sep (c ∷ s) = split-cons₁ (eqb c sep) (c ∷ []) (split sep s)
+
+-- a byte of s that is not the separator stands in some piece
+module _ (sep x : ℕ) (other : x ≡ sep → ⊥) where
+  pub in-piece : (s : List ℕ) → contains x s ≡ true → any (contains x) (split sep s) ≡ true
+  unfolding contains split joinFirst
+  in-piece [] e = absurd (false≢true e)
+  in-piece (c ∷ s) e =
+      let (p, ps, q) = split-cons sep s in
+      rw q (by-first (eqb c sep) refl (eqb c x) refl e p ps (λ h. rw q at (in-piece s h)))
+    where
+      or-assoc : (a b d : Bool) → b || d ≡ true → (a || b) || d ≡ true
+      or-assoc true b d h = refl
+      or-assoc false b d h = h
+
+      by-first : (b : Bool) → eqb c sep ≡ b → (d : Bool) → eqb c x ≡ d → d || contains x s ≡ true → (p : List ℕ) (ps : List (List ℕ))
+          → (contains x s ≡ true → contains x p || any (contains x) ps ≡ true) → any (contains x) (cond b ([] ∷ p ∷ ps) ((c ∷ p) ∷ ps)) ≡ true
+      by-first true y true z h p ps f = absurd (other (omega (arith, eqb-true c sep y, eqb-true c x z)))
+      by-first true y false z h p ps f = f h
+      by-first false y true z h p ps f = rw z
+      by-first false y false z h p ps f = or-assoc (eqb c x) (contains x p) (any (contains x) ps) (f h)
 
 module _ (sep : ℕ) (s : List ℕ) (n : ℕ) where
   -- the first piece goes on past n

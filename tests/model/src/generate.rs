@@ -1070,6 +1070,9 @@ fn network(rng: &mut Rng, aims: &Aims, faulty: bool, path: &mut Vec<u8>) {
     if faulty && rng.once_in(2) {
         spoil_address(rng, &mut text);
     }
+    if rng.once_in(if family == IPV6 { 6 } else { 60 }) {
+        zone(rng, &mut text);
+    }
     escaped(rng, &text, path);
     if has_length {
         path.push(b'/');
@@ -1116,6 +1119,16 @@ fn ipv6(rng: &mut Rng, address: u128) -> Vec<u8> {
     texts.join(":").into_bytes()
 }
 
+/// A zone identifier, which is ignored after IPv6 text unless it is empty.
+fn zone(rng: &mut Rng, text: &mut Vec<u8>) {
+    text.push(b'%');
+    match rng.below(8) {
+        0 => text.extend((0..rng.between(1, 6)).map(|_| rng.below(0x80) as u8)),
+        1 => text.extend(vec![b'e'; rng.between(1, 1000)]),
+        _ => text.extend(rng.word(" eth0 1 % 25 a%b %% : ::1 /10 / * 1.2.3.4")),
+    }
+}
+
 fn insert(text: &mut Vec<u8>, at: usize, more: &[u8]) {
     text.splice(at..at, more.iter().copied()).for_each(drop);
 }
@@ -1142,10 +1155,10 @@ fn spoil_address(rng: &mut Rng, text: &mut Vec<u8>) {
             let at = *rng.pick(&marks) + 1;
             insert(text, at, rng.word("0 00 fff 25"));
         }
-        5 => text.extend(rng.word("%eth0 %25eth0 : . :0 .0 :1.2.3.4 -")),
+        5 => text.extend(rng.word("% %25eth0 : . :0 .0 :1.2.3.4 -")),
         6 => insert(text, 0, rng.word(": 0 . 1: ::1.2.3.4: [")),
         7 => {
-            let bytes = b"0123456789abcdefABCDEFgG:.xX+-";
+            let bytes = b"0123456789abcdefABCDEFgG:.xX+-%";
             text.insert(at, *rng.pick(bytes));
         }
         8 if !text.is_empty() => {

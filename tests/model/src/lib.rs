@@ -875,7 +875,7 @@ fn read_network(segments: &[&[u8]]) -> Option<(u8, Range)> {
         [address, length] => (address, Some(length)),
         _ => return None,
     };
-    let (family, first, bits) = match (read_ipv4(address), read_ipv6(address)) {
+    let (family, first, bits) = match (read_ipv4(address), read_ipv6(without_zone(address))) {
         (Some(first), _) => (IPV4, first, 32),
         (None, Some(first)) => (IPV6, first, 128),
         (None, None) => return None,
@@ -939,9 +939,18 @@ fn read_ipv4(text: &[u8]) -> Option<u128> {
     })
 }
 
+/// "In an IPv6 segment, after decoding, the first percent sign and all after it
+/// are dropped, provided that at least one byte follows; the rest is read as
+/// before."
+fn without_zone(text: &[u8]) -> &[u8] {
+    match split_first(text, b'%') {
+        Some((address, [_, ..])) => address,
+        _ => text,
+    }
+}
+
 /// "IPv6: RFC 3986's IPv6address; `::` at most once, for one or more groups; an
-/// IPv4 tail only in the last 32 bits. A zone identifier makes the address
-/// malformed."
+/// IPv4 tail only in the last 32 bits."
 fn read_ipv6(text: &[u8]) -> Option<u128> {
     let groups = match text.windows(2).position(|pair| pair == b"::") {
         None => read_groups(text, true)?,

@@ -77,12 +77,27 @@ fn part_of(image: &[u8], [offset, length]: [u32; 2]) -> &[u8] {
     &image[offset as usize..][..length as usize]
 }
 
-fn file(name: &str) -> Vec<u8> {
-    let folder = std::env::var_os("VECTORS")
+fn place_of(name: &str) -> PathBuf {
+    std::env::var_os("VECTORS")
         .map(PathBuf::from)
-        .unwrap_or_else(|| PathBuf::from(env!("CARGO_MANIFEST_DIR")).join("../vectors"));
-    let path = folder.join(name);
+        .unwrap_or_else(|| PathBuf::from(env!("CARGO_MANIFEST_DIR")).join("../vectors"))
+        .join(name)
+}
+
+fn file(name: &str) -> Vec<u8> {
+    let path = place_of(name);
     fs::read(&path).unwrap_or_else(|error| panic!("{}: {error}", path.display()))
+}
+
+/// The names in a folder, in order.
+fn names(folder: &str) -> Vec<String> {
+    let path = place_of(folder);
+    let entries = fs::read_dir(&path).unwrap_or_else(|error| panic!("{}: {error}", path.display()));
+    let mut names: Vec<String> = entries
+        .map(|entry| entry.unwrap().file_name().into_string().unwrap())
+        .collect();
+    names.sort();
+    names
 }
 
 /// Lines are bytes, each ended by a line feed; the last one may lack it.
@@ -100,6 +115,12 @@ fn rows(bytes: &[u8]) -> Vec<Vec<&[u8]>> {
         .into_iter()
         .filter(|line| !line.starts_with(b"#"))
         .map(|line| line.split(|&byte| byte == b'\t').collect())
+        .collect()
+}
+
+fn from_hex(text: &[u8]) -> Vec<u8> {
+    text.chunks(2)
+        .map(|pair| u8::from_str_radix(std::str::from_utf8(pair).unwrap(), 16).unwrap())
         .collect()
 }
 
@@ -248,17 +269,21 @@ fn rooms() {
     }
 }
 
+fn relation_named(name: &[u8]) -> Relation {
+    match name {
+        b"up" => Relation::Up,
+        b"down" => Relation::Down,
+        b"top" => Relation::Top,
+        b"bottom" => Relation::Bottom,
+        other => panic!("no relation: {}", other.escape_ascii()),
+    }
+}
+
 #[test]
 fn relations() {
     let image = file("campus.image");
     run_table("relations.tsv", |calls, row, tally| {
-        let relation = match row[1] {
-            b"up" => Relation::Up,
-            b"down" => Relation::Down,
-            b"top" => Relation::Top,
-            b"bottom" => Relation::Bottom,
-            other => panic!("no relation: {}", other.escape_ascii()),
-        };
+        let relation = relation_named(row[1]);
         let mut list = vec![FILL; number(row[2])];
         let record = number(row[0]) as u32;
         let reply = (calls.relation)(&image, record, relation, &mut list);
@@ -270,10 +295,7 @@ fn relations() {
 #[test]
 fn defects() {
     run_table("defects.tsv", |calls, row, tally| {
-        let image: Vec<u8> = row[0]
-            .chunks(2)
-            .map(|pair| u8::from_str_radix(std::str::from_utf8(pair).unwrap(), 16).unwrap())
-            .collect();
+        let image = from_hex(row[0]);
         let (defect, place) = (calls.defect)(&image);
         let expected = [row[1], row[2]].join(&b' ');
         tally.row(row[0], &expected, format!("{defect} {place}").as_bytes());
@@ -289,6 +311,94 @@ fn defects() {
             assert!((calls.name_of)(&image, 0).is_empty());
         }
     });
+}
+
+// The vectors of the changes
+
+/// The input that a column of `rows.tsv` stands for.
+fn input(folder: &str, column: &[u8]) -> Vec<u8> {
+    match column {
+        b"-" => vec![],
+        [b'@', name @ ..] => file(&format!("{folder}/{}", std::str::from_utf8(name).unwrap())),
+        digits => from_hex(digits),
+    }
+}
+
+/// Numbers as a column has them.
+fn column(numbers: &[u32]) -> Vec<u8> {
+    let texts: Vec<String> = numbers.iter().map(u32::to_string).collect();
+    let text = texts.join(" ");
+    if text.is_empty() { "-".into() } else { text }.into()
+}
+
+/// What a call replies and what it writes, for the row that asks for it.
+fn run_row(calls: &Calls, folder: &str, row: &[&[u8]]) -> [Vec<u8>; 2] {
+    let image = input(folder, row[1]);
+    let part = |part: &[u8]| match part.len() {
+        0 => [0, 0],
+        length => [
+            (part.as_ptr() as usize - image.as_ptr() as usize) as u32,
+            length as u32,
+        ],
+    };
+    let mut list = match row[3] {
+        b"-" => vec![],
+        places => vec![FILL; number(places)],
+    };
+    let name = row[0].strip_prefix(b"rdap_").expect("a function for C");
+    let reply = match name {
+        b"handle" => {
+            return [
+                column(&part((calls.handle)(&image, number(row[2]) as u32))),
+                b"-".into(),
+            ]
+        }
+        b"name" => {
+            return [
+                column(&part((calls.name_of)(&image, number(row[2]) as u32))),
+                b"-".into(),
+            ]
+        }
+        b"answer" => (calls.answer)(&input(folder, row[2]), &image, &mut list),
+        relation => {
+            let record = number(row[2]) as u32;
+            (calls.relation)(&image, record, relation_named(relation), &mut list)
+        }
+    };
+    let written = list
+        .iter()
+        .rposition(|&place| place != FILL)
+        .map_or(0, |at| at + 1);
+    [column(&reply.numbers()), column(&list[..written])]
+}
+
+/// Each folder of `changes` holds the rules as they stand after the change of
+/// that number. A row says until which change it holds.
+#[test]
+fn changes() {
+    let folders = names("changes");
+    let newest = folders
+        .iter()
+        .filter_map(|folder| folder.parse::<usize>().ok())
+        .max();
+    for folder in folders
+        .iter()
+        .filter(|folder| folder.parse::<usize>().is_ok())
+    {
+        let folder = format!("changes/{folder}");
+        for name in names(&folder) {
+            if let Some(name) = name.strip_suffix(".paths") {
+                run_paths(&format!("{folder}/{name}"));
+            }
+        }
+        run_table(&format!("{folder}/rows.tsv"), |calls, row, tally| {
+            if newest <= Some(number(row[7])) {
+                let [reply, output] = run_row(calls, &folder, row);
+                tally.row(row[8], row[4], &reply);
+                tally.row(row[8], row[5], &output);
+            }
+        });
+    }
 }
 
 /// "A whole image, 30 bytes, one AS block 12 to 15, handle A, name B, active"

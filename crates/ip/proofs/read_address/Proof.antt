@@ -1,8 +1,9 @@
--- `read_address` answers as the definition says: by the IPv4 reader first, then by the IPv6 reader.
-use mathlib.Core.Path.{_≡_}
+-- `read_address` answers as the definition says: by the IPv4 reader first, then by the IPv6 reader, which gets the text without its zone.
+use mathlib.Core.Path.{_≡_, ap, _∙_}
 use lib.ListN.{length}
 use denote.Ref.{now}
 use borrow.Author.Needs.{needs}
+use Rattle.ip.specs.Ip.{ipv6}
 use Rattle.ip.proofs.Answers.{answer-four, answer-six, answer-none}
 use Rattle.ip.proofs.read_address.Statement.{statement}
 use Rattle.ip.proofs.read_address.Tie as tie
@@ -21,22 +22,34 @@ returns c =
     let k : length (c .put-ipv4 .result) ≡ 16 = search needs in
     answer-four s _ _ (four .ensures) _ (c .before .before .if1 .taken) l k (c .put-ipv4 .ensures)
 
+without-zone-requires : tie.Need-without-zone-requires
+without-zone-requires c κs = search needs
+
 read-ipv6-requires : tie.Need-read-ipv6-requires
 read-ipv6-requires c κs = search needs
 
 returns-2 : tie.Need-returns-2
 returns-2 c =
-    let s = now (c .before .before .before .before .before .before .args .s) in
+    let s = now (c .before .before .before .before .before .before .before .args .s) in
     let six = c .before .before .read-ipv6 in
     let l : length (six .result .bytes) ≡ 16 = search needs in
-    answer-six s _ _ (c .before .before .before .before .read-ipv4 .ensures) (c .before .before .before .if1 .left) _ _ (six .ensures) (c .before .if2 .taken) l
+    let is = six .ensures ∙ ap ipv6 (c .before .before .before .without-zone .ensures) in
+    answer-six s _ _ (c .before .before .before .before .before .read-ipv4 .ensures) (c .before .before .before .before .if1 .left) _ _ is (c .before .if2 .taken) l
 
 returns-3 : tie.Need-returns-3
 returns-3 c =
-    let s = now (c .before .before .before .before .before .args .s) in
-    answer-none s _ _ (c .before .before .before .read-ipv4 .ensures) (c .before .before .if1 .left) _ _ (c .before .read-ipv6 .ensures) (c .if2 .left)
+    let s = now (c .before .before .before .before .before .before .args .s) in
+    let is = c .before .read-ipv6 .ensures ∙ ap ipv6 (c .before .before .without-zone .ensures) in
+    answer-none s _ _ (c .before .before .before .before .read-ipv4 .ensures) (c .before .before .before .if1 .left) _ _ is (c .if2 .left)
 
 pub read-address-spec : {M : Type 1} → statement M
 read-address-spec =
     tie.close
-    (tie.spec read-ipv4-requires put-ipv4-requires returns read-ipv6-requires returns-2 returns-3)
+    (tie.spec
+    read-ipv4-requires
+    put-ipv4-requires
+    returns
+    without-zone-requires
+    read-ipv6-requires
+    returns-2
+    returns-3)

@@ -1,0 +1,53 @@
+-- Laws of the zone identifier, by what stands after the first percent sign, and the theorem `zones`.
+use Prim.Native.Nat.{ℕ, _≤_, _<_}
+use Prim.Native.Char.{code}
+use mathlib.Core.Path.{_≡_, sym, ap, _∙_}
+use mathlib.Core.List.{List, [], _∷_, _++_}
+use mathlib.Core.Bool.{true, false}
+use mathlib.Core.Option.{none}
+use native.Mathlib.Omega.{arith}
+use lib.ListN.{length}
+use borrow.Author.Tests.{le-leb, lt-leb}
+use Rattle.address.specs.Lists.{contains}
+use Rattle.numeral.specs.Numeral.{digitValue}
+use Rattle.pieces.specs.Split.{before, after}
+use Rattle.pieces.proofs.Cuts.{before-known, after-known, after-nowhere, contains-known}
+use Rattle.ip.specs.Ip.{ipv4, ipv6, withoutZone, addressOf}
+use Rattle.ip.specs.Zones.{Zones}
+use Rattle.ip.proofs.Answers.{address-six}
+use Rattle.ip.proofs.Foreign.{ipv4-not, ipv6-not}
+
+module _ (s zone : List ℕ) (is : zone ≡ after (code "%") s) where
+  pub zone-dropped : 1 ≤ length zone → before (code "%") s ≡ withoutZone s
+  unfolding withoutZone
+  zone-dropped h = rw (← is, le-leb 1 (length zone) h)
+
+  pub zone-missing : length zone < 1 → s ≡ withoutZone s
+  unfolding withoutZone
+  zone-missing h = rw (← is, lt-leb 1 (length zone) h)
+
+-- no address has a percent sign
+
+no-ipv4 : (s : List ℕ) → contains (code "%") s ≡ true → ipv4 s ≡ none
+unfolding digitValue
+no-ipv4 = ipv4-not (code "%") (omega arith) (λ e. omega arith)
+
+no-ipv6 : (s : List ℕ) → contains (code "%") s ≡ true → ipv6 s ≡ none
+unfolding digitValue
+no-ipv6 = ipv6-not (code "%") (omega arith) (λ e. omega arith) (omega arith) (λ e. omega arith)
+
+pub zones : (a : List ℕ) → contains (code "%") a ≡ false → Zones a
+unfolding addressOf
+zones a h =
+    record {
+      ignored = λ zone k.
+          let s : List ℕ = a ++ (code "%" ∷ zone) in
+          let dropped = zone-dropped s zone (sym (after-known (code "%") a zone h)) k in
+          address-six s (no-ipv4 s (contains-known (code "%") a zone)) ∙ ap ipv6 (sym dropped ∙ before-known (code "%") a zone h);
+      unfollowed =
+          let s : List ℕ = a ++ (code "%" ∷ []) in
+          let has = contains-known (code "%") a [] in
+          let stays = zone-missing s [] (sym (after-known (code "%") a [] h)) (omega arith) in
+          address-six s (no-ipv4 s has) ∙ ap ipv6 (sym stays) ∙ no-ipv6 s has;
+      unzoned = rw (sym (zone-missing a [] (sym (after-nowhere (code "%") a h)) (omega arith)));
+    }
