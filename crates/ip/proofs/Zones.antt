@@ -3,7 +3,7 @@ use Prim.Native.Nat.{ℕ, _≤_, _<_}
 use Prim.Native.Char.{code}
 use mathlib.Core.Path.{_≡_, sym, ap, _∙_}
 use mathlib.Core.List.{List, [], _∷_, _++_}
-use mathlib.Core.Bool.{true, false}
+use mathlib.Core.Bool.{true}
 use mathlib.Core.Option.{none}
 use native.Mathlib.Omega.{arith}
 use lib.ListN.{length}
@@ -11,7 +11,7 @@ use borrow.Author.Tests.{le-leb, lt-leb}
 use Rattle.address.specs.Lists.{contains}
 use Rattle.numeral.specs.Numeral.{digitValue}
 use Rattle.pieces.specs.Split.{before, after}
-use Rattle.pieces.proofs.Cuts.{before-known, after-known, after-nowhere, contains-known}
+use Rattle.pieces.proofs.Cuts.{cut-known, after-nowhere, contains-known}
 use Rattle.ip.specs.Ip.{ipv4, ipv6, withoutZone, addressOf}
 use Rattle.ip.specs.Zones.{Zones}
 use Rattle.ip.proofs.Answers.{address-six}
@@ -36,18 +36,18 @@ no-ipv6 : (s : List ℕ) → contains (code "%") s ≡ true → ipv6 s ≡ none
 unfolding digitValue
 no-ipv6 = ipv6-not (code "%") (omega arith) (λ e. omega arith) (omega arith) (λ e. omega arith)
 
-pub zones : (a : List ℕ) → contains (code "%") a ≡ false → Zones a
+pub zones : Zones
 unfolding addressOf
-zones a h =
+zones =
     record {
-      ignored = λ zone k.
+      ignored = λ a zone h k.
           let s : List ℕ = a ++ (code "%" ∷ zone) in
-          let dropped = zone-dropped s zone (sym (after-known (code "%") a zone h)) k in
-          address-six s (no-ipv4 s (contains-known (code "%") a zone)) ∙ ap ipv6 (sym dropped ∙ before-known (code "%") a zone h);
-      unfollowed =
+          let (front, rest) = cut-known (code "%") a zone h in
+          address-six s (no-ipv4 s (contains-known (code "%") a zone)) ∙ ap ipv6 (sym (zone-dropped s zone (sym rest) k) ∙ front);
+      unfollowed = λ a h.
           let s : List ℕ = a ++ (code "%" ∷ []) in
           let has = contains-known (code "%") a [] in
-          let stays = zone-missing s [] (sym (after-known (code "%") a [] h)) (omega arith) in
+          let stays = zone-missing s [] (sym (cut-known (code "%") a [] h .1)) (omega arith) in
           address-six s (no-ipv4 s has) ∙ ap ipv6 (sym stays) ∙ no-ipv6 s has;
-      unzoned = rw (sym (zone-missing a [] (sym (after-nowhere (code "%") a h)) (omega arith)));
+      unzoned = λ a h. rw (sym (zone-missing a [] (sym (after-nowhere (code "%") a h)) (omega arith)));
     }

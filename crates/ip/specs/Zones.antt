@@ -1,17 +1,18 @@
--- S8.5 as a theorem. A text has no percent sign, or it is such a text a, a percent sign, and a zone or nothing after it.
+-- S8.5 as a theorem over every text: a, before the first percent sign, has none.
 use Prim.Native.Nat.{ℕ, _≤_}
 use Prim.Native.Char.{code}
 use mathlib.Core.Path.{_≡_}
 use mathlib.Core.List.{List, [], _∷_, _++_}
+use mathlib.Core.Bool.{false}
 use mathlib.Core.Option.{none}
 use lib.ListN.{length}
+use Rattle.address.specs.Lists.{contains}
 use Rattle.ip.specs.Ip.{ipv4, ipv6, orElse, addressOf}
 
--- of a text a without a percent sign
-pub record Zones (a : List ℕ) : Type 0 where
-  -- with a zone after it: its IPv6 address, whatever the zone, and no IPv4 address
-  pub ignored : (zone : List ℕ) → 1 ≤ length zone → addressOf (a ++ (code "%" ∷ zone)) ≡ ipv6 a
-  -- with a percent sign after it that nothing follows: malformed
-  pub unfollowed : addressOf (a ++ (code "%" ∷ [])) ≡ none
-  -- by itself: an address of either family
-  pub unzoned : addressOf a ≡ orElse (ipv4 a) (ipv6 a)
+pub record Zones : Type 0 where
+  -- a zone is ignored, whatever it holds; what stands before it is IPv6 text
+  pub ignored : (a zone : List ℕ) → contains (code "%") a ≡ false → 1 ≤ length zone → addressOf (a ++ (code "%" ∷ zone)) ≡ ipv6 a
+  -- a percent sign that nothing follows makes the address malformed
+  pub unfollowed : (a : List ℕ) → contains (code "%") a ≡ false → addressOf (a ++ (code "%" ∷ [])) ≡ none
+  -- without a percent sign, of either family
+  pub unzoned : (a : List ℕ) → contains (code "%") a ≡ false → addressOf a ≡ orElse (ipv4 a) (ipv6 a)

@@ -1,7 +1,7 @@
--- Laws of tests that are joined by "and", and of a byte from low to high: by cases on the first test.
+-- Laws of tests that are joined by "and" or by "or", and of a byte from low to high: by cases on the first test.
 use Prim.Native.Nat.{ℕ, _≤_}
-use mathlib.Core.Path.{_≡_, refl}
-use mathlib.Core.Bool.{Bool, true, false, false≢true, _&&_}
+use mathlib.Core.Path.{_≡_, refl, sym}
+use mathlib.Core.Bool.{Bool, true, false, false≢true, _&&_, _||_}
 use lib.Dec.{leb}
 use borrow.Author.Tests.{leb-true}
 use Rattle.address.specs.Lists.{within}
@@ -17,6 +17,14 @@ and-right false b e = absurd (false≢true e)
 pub and-false : (a : Bool) → a && false ≡ false
 and-false true = refl
 and-false false = refl
+
+pub or-true : (a : Bool) → a || true ≡ true
+or-true true = refl
+or-true false = refl
+
+pub neither : (a b : Bool) → a || b ≡ false → (a ≡ false) × (b ≡ false)
+neither true b e = absurd (false≢true (sym e))
+neither false b e = (refl, e)
 
 module _ (low high c : ℕ) (e : within low high c ≡ true) where
   pub within-low : low ≤ c

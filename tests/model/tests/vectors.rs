@@ -331,12 +331,13 @@ fn column(numbers: &[u32]) -> Vec<u8> {
     if text.is_empty() { "-".into() } else { text }.into()
 }
 
-/// What a call replies and what it writes, for the row that asks for it.
+/// What a call replies and what it writes, as the row has it.
 fn run_row(calls: &Calls, folder: &str, row: &[&[u8]]) -> [Vec<u8>; 2] {
     let image = input(folder, row[1]);
-    let part = |part: &[u8]| match part.len() {
-        0 => [0, 0],
-        length => [
+    let record = || number(row[2]) as u32;
+    let span = |part: &[u8]| match part.len() {
+        0 => vec![0, 0],
+        length => vec![
             (part.as_ptr() as usize - image.as_ptr() as usize) as u32,
             length as u32,
         ],
@@ -347,55 +348,42 @@ fn run_row(calls: &Calls, folder: &str, row: &[&[u8]]) -> [Vec<u8>; 2] {
     };
     let name = row[0].strip_prefix(b"rdap_").expect("a function for C");
     let reply = match name {
-        b"handle" => {
-            return [
-                column(&part((calls.handle)(&image, number(row[2]) as u32))),
-                b"-".into(),
-            ]
-        }
-        b"name" => {
-            return [
-                column(&part((calls.name_of)(&image, number(row[2]) as u32))),
-                b"-".into(),
-            ]
-        }
-        b"answer" => (calls.answer)(&input(folder, row[2]), &image, &mut list),
-        relation => {
-            let record = number(row[2]) as u32;
-            (calls.relation)(&image, record, relation_named(relation), &mut list)
-        }
+        b"answer" => (calls.answer)(&input(folder, row[2]), &image, &mut list)
+            .numbers()
+            .to_vec(),
+        b"handle" => span((calls.handle)(&image, record())),
+        b"name" => span((calls.name_of)(&image, record())),
+        relation => (calls.relation)(&image, record(), relation_named(relation), &mut list)
+            .numbers()
+            .to_vec(),
     };
     let written = list
         .iter()
         .rposition(|&place| place != FILL)
         .map_or(0, |at| at + 1);
-    [column(&reply.numbers()), column(&list[..written])]
+    [column(&reply), column(&list[..written])]
 }
 
 /// Each folder of `changes` holds the rules as they stand after the change of
 /// that number. A row says until which change it holds.
 #[test]
 fn changes() {
-    let folders = names("changes");
-    let newest = folders
+    let numbers: Vec<usize> = names("changes")
         .iter()
-        .filter_map(|folder| folder.parse::<usize>().ok())
-        .max();
-    for folder in folders
-        .iter()
-        .filter(|folder| folder.parse::<usize>().is_ok())
-    {
-        let folder = format!("changes/{folder}");
+        .filter_map(|name| name.parse().ok())
+        .collect();
+    let newest = *numbers.last().expect("a change");
+    for change in numbers {
+        let folder = format!("changes/{change:02}");
         for name in names(&folder) {
             if let Some(name) = name.strip_suffix(".paths") {
                 run_paths(&format!("{folder}/{name}"));
             }
         }
         run_table(&format!("{folder}/rows.tsv"), |calls, row, tally| {
-            if newest <= Some(number(row[7])) {
-                let [reply, output] = run_row(calls, &folder, row);
-                tally.row(row[8], row[4], &reply);
-                tally.row(row[8], row[5], &output);
+            if newest <= number(row[7]) {
+                let got = run_row(calls, &folder, row);
+                tally.row(row[8], &row[4..6].join(&b'\t'), &got.join(&b'\t'));
             }
         });
     }
