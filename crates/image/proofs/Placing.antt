@@ -1,6 +1,6 @@
 -- The place of a record after another, test by test (`placeOn`).
 use mathlib.Core.Path.{_≡_, refl, sym, _∙_, ap}
-use mathlib.Core.Bool.{Bool, true, false, cond, not, _&&_, _||_}
+use mathlib.Core.Bool.{Bool, true, false, cond, not, _&&_}
 use mathlib.Core.List.{List}
 use Prim.Native.Nat.{ℕ, _+_, _-_, _*_, _≤_, _<_}
 use borrow.Author.Tests.{le-leb, lt-leb, lt-ltb, le-ltb, eq-eqb, ne-eqb, eqb-true}
@@ -11,6 +11,7 @@ use lib.Seq.{slice, slice-empty, take-nil, drop-nil}
 use Rattle.address.specs.Number.{value, valueFrom, atMost}
 use Rattle.address.specs.Ranges.{Range, wellFormed, sortsAfter}
 use Rattle.address.specs.Positions.{numberIn, rangeIn}
+use Rattle.pieces.proofs.Tests.{or-false}
 use Rattle.fields.specs.Slices.{take-slice, drop-slice}
 use Rattle.records.specs.Record.{Record, isBlock, widthOf, rangeFrom, rangeOf, keyOf, sortedAfter, follows}
 use Rattle.records.specs.Judge.{inOrder}
@@ -46,10 +47,6 @@ module _ (s : List ℕ) (l : Layout) (p : LaidOut (length s) l) (b : l .tag ≤ 
 
 -- Defect 6 by the tags
 
-or-false : (b c : Bool) → (b || (false && c)) ≡ b
-or-false true c = refl
-or-false false c = refl
-
 module _ (p r : Record) where
   sorted-block : isBlock (r .tag) ≡ true → (a b : Range) → rangeOf p ≡ a → rangeOf r ≡ b → sortedAfter p r ≡ sortsAfter a b
   unfolding sortedAfter
@@ -68,7 +65,7 @@ module _ (s : List ℕ) (p r : Layout) (h : 16 ≤ r .tag) where
       by-before true e =
           let z : p .tag ≡ 0 = eqb-true (p .tag) 0 e in
           rw (e, lt-ltb (p .tag) (r .tag) (omega arith))
-      by-before false e = rw (e, ne-eqb (p .tag) (r .tag) n) (or-false (ltb (p .tag) (r .tag)) (sortedAfter (recordOn s p) (recordOn s r)))
+      by-before false e = rw (e, ne-eqb (p .tag) (r .tag) n) (or-false (ltb (p .tag) (r .tag)))
 
   module _ (e : p .tag ≡ r .tag) where
     order-same : inOrder (recordBefore s p) (recordOn s r) ≡ sortedAfter (recordOn s p) (recordOn s r)

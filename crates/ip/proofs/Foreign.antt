@@ -1,7 +1,7 @@
 -- A text is no address if it holds a byte x that stands in none: no digit, no dot and, for IPv6, no colon.
 use Prim.Native.Nat.{ℕ, suc, _+_, _≤_, _<_}
 use Prim.Native.Char.{code}
-use mathlib.Core.Path.{_≡_, refl}
+use mathlib.Core.Path.{_≡_, refl, sym, _∙_}
 use mathlib.Core.List.{List, [], _∷_}
 use mathlib.Core.Bool.{Bool, true, false, cond, false≢true, _||_}
 use mathlib.Core.Option.{Option, none, some}
@@ -14,7 +14,7 @@ use Rattle.numeral.specs.Numeral.{digitValue, decimal}
 use Rattle.numeral.proofs.Laws.{decimal-not, h16-not}
 use Rattle.pieces.specs.Split.{split}
 use Rattle.pieces.proofs.Pieces.{in-piece}
-use Rattle.pieces.proofs.Tests.{and-left, and-right}
+use Rattle.pieces.proofs.Tests.{and-left, and-right, or-false}
 use Rattle.ip.specs.Ip.{prefixed, joined, exactly, oneByte, octets, ipv4, group, orElse, lastGroup, groups, side, elided, elisionFirst, elision, ipv6}
 use Rattle.ip.proofs.GroupLaws.{group-none}
 
@@ -47,11 +47,7 @@ module _ (x : ℕ) (no-digit : 10 ≤ digitValue x) (no-dot : x ≡ code "." →
     groups-not : (tail : Bool) (ps : List (List ℕ)) → any (contains x) ps ≡ true → groups tail ps ≡ none
     unfolding groups joined
     groups-not tail [] e = refl
-    groups-not tail (p ∷ []) e = last-not tail p (or-left (contains x p) e)
-      where
-        or-left : (b : Bool) → b || false ≡ true → b ≡ true
-        or-left true h = refl
-        or-left false h = h
+    groups-not tail (p ∷ []) e = last-not tail p (sym (or-false (contains x p)) ∙ e)
     groups-not tail (p ∷ q ∷ ps) e = by-first (contains x p) refl e (groups-not tail (q ∷ ps))
       where
         by-first : (b : Bool) → contains x p ≡ b → b || any (contains x) (q ∷ ps) ≡ true → (any (contains x) (q ∷ ps) ≡ true → groups tail (q ∷ ps) ≡ none)

@@ -1,6 +1,6 @@
 -- One step of the reading of a host name byte by byte.
-use mathlib.Core.Path.{_≡_, refl, sym}
-use mathlib.Core.Bool.{Bool, true, false, not, _&&_, _||_}
+use mathlib.Core.Path.{_≡_, sym}
+use mathlib.Core.Bool.{Bool, true, false, not, _&&_}
 use lib.Dec.{leb}
 use mathlib.Core.List.{List}
 use Prim.Native.Nat.{ℕ, suc, _+_, _≤_, _<_}
@@ -10,13 +10,10 @@ use native.Mathlib.Omega.{arith}
 use lib.ListN.{length, getD, drop, drop-of-length-le}
 use lib.Seq.{drop-cons}
 use Rattle.address.specs.Lists.{within}
+use Rattle.pieces.proofs.Tests.{or-false}
 use Rattle.name.specs.Texts.{goodHost}
 use Rattle.name.specs.HostScan.{letterOrDigit, labelsFrom}
 use Rattle.name.proofs.HostScan.{host-scan}
-
-or-false : (b : Bool) → (b || false) ≡ b
-or-false true = refl
-or-false false = refl
 
 module _ (b : ℕ) where
   pub letter-high : code "a" ≤ b → leb b (code "z") ≡ letterOrDigit b

@@ -22,6 +22,10 @@ pub or-true : (a : Bool) → a || true ≡ true
 or-true true = refl
 or-true false = refl
 
+pub or-false : (a : Bool) → a || false ≡ a
+or-false true = refl
+or-false false = refl
+
 pub neither : (a b : Bool) → a || b ≡ false → (a ≡ false) × (b ≡ false)
 neither true b e = absurd (false≢true (sym e))
 neither false b e = (refl, e)
