@@ -1,4 +1,5 @@
 pub mod Reply
 pub mod Answered
+pub mod Reporting
 pub mod Told
 pub mod Computing

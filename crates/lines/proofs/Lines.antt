@@ -1,12 +1,10 @@
 -- The parts of a line; and an answer with the record numbers that it reports is the reply.
 use Prim.Native.Nat.{ℕ, _+_, _-_, _≤_, _<_}
 use Prim.Native.Char.{code}
-use mathlib.Core.Path.{_≡_, refl, sym, ap, _∙_}
-use mathlib.Core.Bool.{Bool, true, false, cond}
+use mathlib.Core.Path.{_≡_, sym, ap, _∙_}
 use mathlib.Core.List.{List, [], _∷_, _++_, append-assoc}
 use native.Mathlib.Omega.{arith}
-use borrow.Author.Tests.{lt-ltb, le-ltb, eqb-true, eqb-false}
-use lib.Dec.{eqb}
+use borrow.Author.Tests.{lt-ltb, le-ltb}
 use lib.ListN.{length, take, drop, length-append, length-drop, take-append-drop}
 use lib.Seq.{take-at, length-take-le}
 use borrow.Rule.Slice.PartMut.{putMid}
@@ -14,10 +12,13 @@ use Rattle.numeral.specs.Decimal.{decimalText}
 use Rattle.answers.specs.declared.Answer.{Answer}
 use Rattle.answers.specs.Reply.{Reply, kindNumber, listAfter, line}
 use Rattle.answers.specs.Answered.{replyOf, Answered}
-use Rattle.rdap.specs.Replies.{Consistent}
+use Rattle.answers.specs.Reporting.{reportedOf}
+use Rattle.calls.specs.Replies.{Consistent}
+use Rattle.calls.proofs.Replies.{fits, reported-all}
 use Rattle.lines.specs.Line.{following, spaced, lineText, room, textIn, Lined}
-use Rattle.lines.specs.Writing.{Written, reportedOf}
-use Rattle.lines.proofs.Writing.{rest-length, written-both, following-append}
+use Rattle.listing.specs.Writing.{Written}
+use Rattle.listing.proofs.Writing.{rest-length, written-both}
+use Rattle.lines.proofs.Writing.{following-append}
 
 pub line-parts : (a : Answer) (records : List ℕ) → lineText (replyOf a records) ≡ spaced (line (replyOf a [])) ++ following records ++ (code "\n" ∷ [])
 unfolding lineText spaced line replyOf
@@ -27,30 +28,13 @@ line-parts a records =
     (ap (λ (t : List ℕ). decimalText (a .status) ++ t) (following-append head records) ∙ sym (append-assoc (decimalText (a .status)) (following head) (following records)))
 
 module _ {places : ℕ} {reply : Reply} {a : Answer} {before after : List ℕ} (k : Consistent places reply) (h : Answered reply a before after) where
-  same-reason : a .reason ≡ reply .reason
-  unfolding replyOf
-  same-reason = ap (λ (r : Reply). r .reason) (h .numbers)
-
-  same-count : a .count ≡ reply .count
-  unfolding replyOf
-  same-count = ap (λ (r : Reply). r .count) (h .numbers)
-
-  -- under reason 0 the first count numbers of the list are the reply's; else it has none
-  reported : (reportedOf a ≤ places) × (take (reportedOf a) after ≡ reply .records)
-  unfolding reportedOf listAfter
-  reported = go (eqb (a .reason) 0) refl
-    where
-      go : (t : Bool) → eqb (a .reason) 0 ≡ t → (cond t (a .count) 0 ≤ places) × (take (cond t (a .count) 0) after ≡ reply .records)
-      go true e =
-          let n = k .answered (sym same-reason ∙ eqb-true (a .reason) 0 e) in
-          (omega (arith, same-count, n .1), ap (take (a .count)) (h .list) ∙ take-at (reply .records) _ (a .count) (sym (n .0) ∙ sym same-count))
-      go false e = (omega arith, sym (k .unreported (omega (arith, eqb-false (a .reason) 0 e, same-reason))))
-
   pub reported-few : reportedOf a ≤ places
-  reported-few = reported .0
+  reported-few = omega (arith, reported-all k a (h .numbers), fits k)
 
   pub reported-are : replyOf a (take (reportedOf a) after) ≡ reply
-  reported-are = ap (replyOf a) (reported .1) ∙ h .numbers
+  unfolding listAfter
+  reported-are =
+      ap (replyOf a) (ap (take (reportedOf a)) (h .list) ∙ take-at (reply .records) _ (reportedOf a) (sym (reported-all k a (h .numbers)))) ∙ h .numbers
 
 -- where there is no room, and where there is
 module _ {reply : Reply} {list list′ out : List ℕ} where
@@ -61,11 +45,11 @@ module _ {reply : Reply} {list list′ out : List ℕ} where
   module _ {out′ : List ℕ} {n : ℕ} (h : room ≤ length out) where
     pub line-put : list′ ≡ listAfter reply list → Written (lineText reply) out out′ n → Lined reply list list′ out out′ n
     unfolding textIn
-    line-put e w = record { bytes = rw (le-ltb _ _ h) (w .bytes); text = rw (le-ltb _ _ h) (w .is); records = e }
+    line-put e w = record { bytes = rw (le-ltb _ _ h) (w .size); text = rw (le-ltb _ _ h) (w .is); records = e }
 
     put-line : Lined reply list list′ out out′ n → Written (lineText reply) out out′ n
     unfolding textIn
-    put-line l = record { bytes = rw (le-ltb _ _ h) at (l .bytes); is = rw (le-ltb _ _ h) at (l .text) }
+    put-line l = record { size = rw (le-ltb _ _ h) at (l .bytes); is = rw (le-ltb _ _ h) at (l .text) }
 
 -- for a caller that lends the rest of a buffer
 module _ (out : List ℕ) (at : ℕ) {reply : Reply} {list list′ rest : List ℕ} {n : ℕ} (l : Lined reply list list′ (take (length out - at) (drop at out)) rest n) where
@@ -76,5 +60,5 @@ module _ (out : List ℕ) (at : ℕ) {reply : Reply} {list list′ rest : List �
 
   pub line-at : at + room ≤ length out → Written (take at out ++ lineText reply) out (putMid at (length out - at) out rest) (at + n)
   line-at h =
-      let before : Written (take at out) out out at = record { bytes = sym (length-take-le at out (omega arith)); is = sym (take-append-drop at out) } in
+      let before : Written (take at out) out out at = record { size = sym (length-take-le at out (omega arith)); is = sym (take-append-drop at out) } in
       written-both before (put-line (rw rest-length (omega arith)) l)

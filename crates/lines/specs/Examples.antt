@@ -5,8 +5,8 @@ use mathlib.Core.Path.{_≡_, refl}
 use mathlib.Core.List.{List, [], _∷_, map}
 use Rattle.pieces.specs.Ascii.{ascii}
 use Rattle.image.specs.Example.{example}
-use Rattle.rdap.specs.Calls.{answerOf}
-use Rattle.rdap.specs.Cases.{registryS}
+use Rattle.calls.specs.Calls.{answerOf}
+use Rattle.calls.specs.Cases.{registryS}
 use Rattle.lines.specs.Line.{lineText}
 use Rattle.lines.specs.Computing.{computing}
 

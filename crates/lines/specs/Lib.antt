@@ -1,4 +1,3 @@
 pub mod Line
-pub mod Writing
 pub mod Computing
 pub mod Examples

@@ -5,10 +5,10 @@ ghost use mathlib.Core.List.{[], _∷_, _++_};
 ghost use lib.ListN.{length, take, drop};
 ghost use Rattle.numeral.specs.Decimal.{decimalText};
 ghost use Rattle.answers.specs.Reply.{line};
-ghost use Rattle.rdap.specs.Calls.{answerOf};
+ghost use Rattle.calls.specs.Calls.{answerOf};
 ghost use Rattle.answers.specs.Answered.{replyOf};
 ghost use Rattle.lines.specs.Line.{following, spaced, lineText, Lined};
-ghost use Rattle.lines.specs.Writing.{Written, reportedOf};
+ghost use Rattle.listing.specs.Writing.{Written};
 use answers::Answer;
 
 // Bytes that every line fits into.
@@ -78,13 +78,6 @@ fn put_line(a: Answer, list: &[u32], reported: usize, out: &mut [u8]) -> usize
     at + 1
 }
 
-// How many record numbers an answer reports.
-fn reported(a: Answer) -> u32
-    ensures { λ r. ⌜ r ≡ reportedOf a ⌝ }
-{
-    if a.reason == 0 { a.count } else { 0 }
-}
-
 // Answers a path from an image, and writes its line to the start of out, if that has room for every line. Gives the number of bytes written.
 pub fn put_answer(path: &[u8], image: &[u8], list: &mut [u32; 4096], out: &mut [u8]) -> usize
     ensures { λ r. ⌜ Lined (answerOf (now (path .entry)) (now (image .entry)) 4096) (now (list .entry)) (now (list .exit)) (now (out .entry)) (now (out .exit)) r ⌝ }
@@ -93,6 +86,6 @@ pub fn put_answer(path: &[u8], image: &[u8], list: &mut [u32; 4096], out: &mut [
     if out.len() < ROOM {
         return 0;
     }
-    let n = reported(a) as usize;
+    let n = answers::reports(a) as usize;
     put_line(a, list, n, out)
 }

@@ -1,3 +1,4 @@
 pub mod Replies
 pub mod Emit
 pub mod Reports
+pub mod Writing

@@ -13,7 +13,7 @@ use Rattle.blocks.specs.Found.{NoBlock, Found}
 use Rattle.blocks.proofs.Families.{family-accepted}
 use Rattle.blocks.proofs.Found as Blocks
 use Rattle.query.specs.declared.Relation.the-variants.{Up, Top}
-use Rattle.rdap.specs.Calls.{relationIn, relationOf}
+use Rattle.calls.specs.Calls.{relationIn, relationOf}
 use Rattle.rdap.specs.Found.{ImageFound}
 use Rattle.rdap.proofs.Forest.{forest}
 

@@ -13,7 +13,7 @@ use Rattle.query.specs.declared.Relation.the-variants.{Up, Top}
 use Rattle.query.specs.declared.Kind.{Kind}
 use Rattle.segment.specs.Target.{Target}
 use Rattle.query.specs.Query.{blockLookup, blockRelation}
-use Rattle.rdap.specs.Calls.{answerOf, relationOf}
+use Rattle.calls.specs.Calls.{answerOf, relationOf}
 use Rattle.rdap.specs.Forest.{PathAsks}
 
 pub record ImageFound (image : List ℕ) (records : List Record) : Type 0 where

@@ -4,7 +4,8 @@ ghost use mathlib.Core.List.{[]};
 ghost use lib.ListN.{length};
 ghost use Rattle.image.specs.Entries.{spanOf};
 ghost use Rattle.answers.specs.Reply.{listAfter};
-ghost use Rattle.rdap.specs.Calls.{answerOf, relationOf};
+ghost use Rattle.calls.specs.Calls.{answerOf, relationOf};
+ghost use Rattle.batch.specs.Batch.{batchOf};
 ghost use Rattle.answers.specs.Answered.{replyOf};
 ghost use Rattle.rdap_c.specs.Numbers.{numbersOf, partNumbers};
 use answers::Answer;
@@ -44,6 +45,16 @@ pub extern "C" fn rdap_answer(path: &[u8], image: &[u8], list: &mut [u32], reply
     ensures { λ _. ⌜ now (list .exit) ≡ listAfter (answerOf (now (path .entry)) (now (image .entry)) (length (now (list .entry)))) (now (list .entry)) ⌝ }
 {
     let a = rdap::answer(path, image, list);
+    *reply = numbers(a);
+}
+
+// Answers paths, separated by a line feed, from an image. For each path the list gets status, reason, kind and count, then its record numbers.
+#[no_mangle]
+pub extern "C" fn rdap_batch(paths: &[u8], image: &[u8], list: &mut [u32], reply: &mut [u32; 7])
+    ensures { λ _. ⌜ now (reply .exit) ≡ numbersOf (batchOf (now (paths .entry)) (now (image .entry)) (length (now (list .entry)))) ⌝ }
+    ensures { λ _. ⌜ now (list .exit) ≡ listAfter (batchOf (now (paths .entry)) (now (image .entry)) (length (now (list .entry)))) (now (list .entry)) ⌝ }
+{
+    let a = rdap::batch(paths, image, list);
     *reply = numbers(a);
 }
 

@@ -7,9 +7,9 @@
 ghost use Prim.Native.Nat.{_+_, _≤_, _<_};
 ghost use mathlib.Core.List.{_++_};
 ghost use lib.ListN.{length, take};
-ghost use Rattle.rdap.specs.Calls.{answerOf};
+ghost use Rattle.calls.specs.Calls.{answerOf};
 ghost use Rattle.lines.specs.Line.{lineText, room};
-ghost use Rattle.lines.specs.Writing.{Written};
+ghost use Rattle.listing.specs.Writing.{Written};
 use libc::STDERR_FILENO;
 use libc::STDOUT_FILENO;
 

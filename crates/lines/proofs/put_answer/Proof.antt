@@ -1,9 +1,9 @@
 -- The line of the reply, where every line has room.
 use native.Mathlib.Omega.{arith}
-use Rattle.rdap.specs.Calls.{answerOf}
+use Rattle.calls.specs.Calls.{answerOf}
 use Rattle.answers.specs.Answered.{Answered}
-use Rattle.rdap.specs.Replies.{Consistent}
-use Rattle.rdap.proofs.Replies.{replies}
+use Rattle.calls.specs.Replies.{Consistent}
+use Rattle.calls.proofs.Replies.{replies}
 use Rattle.lines.proofs.Lines.{reported-few, reported-are, no-room, line-put}
 use borrow.Author.Needs.{needs}
 use Rattle.lines.proofs.put_answer.Statement.{statement}
@@ -27,8 +27,8 @@ consistent c = replies .first (start c .args .path .now) (start c .args .image .
 returns : tie.Need-returns
 returns c = no-room (answered (c .before) .list) (omega arith)
 
-reported-requires : tie.Need-reported-requires
-reported-requires c κs = search needs
+reports-requires : tie.Need-reports-requires
+reports-requires c κs = search needs
 
 cast-n : tie.Need-cast-n
 cast-n c = search needs
@@ -37,7 +37,7 @@ put-line-requires : tie.Need-put-line-requires
 put-line-requires c κs =
     let at-answer = c .before .before .before .before .before in
     let few = reported-few (consistent at-answer) (answered at-answer) in
-    let e = c .before .before .before .reported .ensures in
+    let e = c .before .before .before .reports .ensures in
     (omega (arith, at-answer .answer .kept .1 .1 .0, at-answer .before .answer-arg .given .0 .1), omega arith)
 
 same-length : tie.Need-same-length
@@ -46,7 +46,7 @@ same-length c = search needs
 returns-2 : tie.Need-returns-2
 returns-2 c =
     let at-answer = c .before .before .before .before .before .before .before .before in
-    let e = c .before .before .before .before .before .before .reported .ensures in
+    let e = c .before .before .before .before .before .before .reports .ensures in
     line-put (omega arith) (answered at-answer .list) (rw (e, reported-are (consistent at-answer) (answered at-answer)) at (c .before .before .put-line .ensures))
 
 pub put-answer-spec : {M : Type 1} → statement M
@@ -55,7 +55,7 @@ put-answer-spec =
     (tie.spec
     answer-requires
     returns
-    reported-requires
+    reports-requires
     cast-n
     put-line-requires
     same-length

@@ -5,8 +5,9 @@ use native.Mathlib.Omega.{arith}
 use lib.ListN.{length, take}
 use lib.Seq.{take-length}
 use Rattle.lines.specs.Line.{following}
-use Rattle.lines.specs.Writing.{Written}
-use Rattle.lines.proofs.Writing.{written-nothing, rest-length, next-written}
+use Rattle.listing.specs.Writing.{Written}
+use Rattle.listing.proofs.Writing.{written-nothing, rest-length}
+use Rattle.lines.proofs.Writing.{next-written}
 use borrow.Author.Needs.{needs}
 use Rattle.lines.proofs.put_following.Statement.{statement}
 use Rattle.lines.proofs.put_following.Tie as tie

@@ -3,7 +3,7 @@ use native.Mathlib.Omega.{arith}
 use Rattle.answers.specs.Reply.{line}
 use Rattle.answers.specs.Answered.{replyOf}
 use Rattle.lines.specs.Line.{spaced}
-use Rattle.lines.proofs.Writing.{written-both}
+use Rattle.listing.proofs.Writing.{written-both}
 use borrow.Author.Needs.{needs}
 use Rattle.lines.proofs.put_head.Statement.{statement}
 use Rattle.lines.proofs.put_head.Tie as tie

@@ -4,7 +4,7 @@ use mathlib.Core.Path.{_≡_, sym, _∙_}
 use native.Mathlib.Omega.{arith}
 use lib.ListN.{length, take, length-set}
 use lib.Seq.{length-take-le}
-use Rattle.lines.proofs.Writing.{rest-length, written-both, written-byte}
+use Rattle.listing.proofs.Writing.{rest-length, written-both, written-one}
 use Rattle.lines.proofs.Lines.{line-parts}
 use borrow.Author.Needs.{needs}
 use Rattle.lines.proofs.put_line.Statement.{statement}
@@ -59,7 +59,7 @@ same-length c = simp length-set (c .before .out2 .given .1 ∙ head c .put-head 
 returns : tie.Need-returns
 returns c =
     rw (line-parts (start c .args .a) (take (start c .args .reported) (start c .args .list .now)))
-    (written-byte 10 (slice-write-out c) (written-both (head c .put-head .ensures .0) (c .before .before .put-following .ensures .0)))
+    (written-one 10 (slice-write-out c) (written-both (head c .put-head .ensures .0) (c .before .before .put-following .ensures .0)))
 
 pub put-line-spec : {M : Type 1} → statement M
 put-line-spec =
