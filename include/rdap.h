@@ -5,16 +5,17 @@
  * It needs memcpy and memset and nothing else.
  *
  * Memory. The caller owns every buffer, before, during and after a call. Nothing is allocated and no pointer is kept.
- * path and image are read only. A call writes to list, reply and part and to nothing else.
- * - path, image and list may be NULL if their length is 0, and only then; nothing is read or written through them then.
+ * path, paths and image are read only. A call writes to list, reply and part and to nothing else.
+ * - path, paths, image and list may be NULL if their length is 0, and only then; nothing is read or written
+ *   through them then.
  * - reply has 7 places and part has 2; neither may be NULL.
- * - list and reply are aligned as uint32_t is. list, reply and part may not overlap each other, path or image;
- *   path and image may overlap.
+ * - list and reply are aligned as uint32_t is. list, reply and part may not overlap each other, path, paths or image;
+ *   path or paths and image may overlap.
  * - Buffers have the lengths that are named, and no other thread writes to them during the call.
  *
  * Calls are pure: there is no state, the result depends on the arguments alone, and no call fails, waits or sets errno.
  * Calls may run in parallel, on the same image too, if each has its own list and reply or part.
- * A relation needs some 75 kB of stack, any other call some 40 kB.
+ * A relation needs some 75 kB of stack, in a batch too, any other call some 40 kB.
  */
 #ifndef RDAP_H
 #define RDAP_H
@@ -30,9 +31,11 @@ extern "C" {
 enum {
     RDAP_STATUS,   /* the HTTP status, see the table below */
     RDAP_REASON,   /* 0 answered, else why not */
-    RDAP_KIND,     /* 1 ip, 2 autnum, 3 domain, 4 nameserver, 5 entity, 6 help, 7 pattern search, 8 relation; 0 under reasons 1 to 7 */
+    RDAP_KIND,     /* 1 ip, 2 autnum, 3 domain, 4 nameserver, 5 entity, 6 help, 7 pattern search, 8 relation;
+                      0 under reasons 1 to 7 and 10, and always for a batch */
     RDAP_RELATION, /* 1 up, 2 down, 3 top, 4 bottom; 0 where the kind is not 8 */
-    RDAP_COUNT,    /* under reason 0 the record numbers in the list, under 9 the places that are needed, else 0 */
+    RDAP_COUNT,    /* under reason 0 the record numbers in the list, of a batch the paths answered;
+                      under 9 the places that are needed, else 0 */
     RDAP_DEFECT,   /* under reason 2 what is wrong with the image, 1 to 7, else 0 */
     RDAP_PLACE,    /* under reason 2 the number of the record that has the defect, else 0 */
     RDAP_REPLY_PLACES
@@ -49,9 +52,12 @@ enum {
  *   7  422  asterisk used in a way not supported
  *   8  404  lookup, up or top with no answer; the record number names no block
  *   9  507  the list has fewer places than there are records to report
- *   0  200  answered; the first count places of the list hold the record numbers, ascending, the rest are unchanged
+ *  10  400  a text of more than 64 paths
+ *   0  200  answered; the first count places of the list hold the record numbers, ascending, the rest are unchanged;
+ *           of a batch see rdap_batch
  *
- * On every refusal the whole list is unchanged (S3.5). A list of 4,096 places is never too short.
+ * On every refusal the whole list is unchanged (S3.5). A list of 4,096 places is never too short,
+ * nor is one of 4,100 places a path for a batch.
  *
  * Defects (S5.1): 1 image too long (above 262,144 bytes); 2 wrong start; 3 record cut short, unknown tag, or more than 4,096
  * records; 4 inner fields; 5 contents; 6 order; 7 overlap.
@@ -60,6 +66,18 @@ enum {
 /* Answers a path with its query, as "/ip/192.0.2.0", from an image (S2.1). */
 void rdap_answer(const uint8_t *path, size_t path_len, const uint8_t *image, size_t image_len,
                  uint32_t *list, size_t list_len, uint32_t reply[7]);
+
+/* Answers a text of at most 64 paths, separated by a line feed, from an image that is checked once (S2.4). A feed after the
+ * last path makes one more, empty path; an empty text is one empty path. The text may have any length. A path that holds
+ * a feed is cut there: to keep answers and paths in step, put a NUL in its place, which is refused as the feed would be.
+ * For each path in turn the list gets status, reason, kind and count, then its record numbers: what rdap_answer gives with
+ * a list of the places left after the four. A refused path has no record numbers, under reason 9 neither, where its count
+ * is the places needed: the next answer stands right after its four. The batch stops where fewer than four places are
+ * left; the places after the last answer are unchanged.
+ * Its own reason is 0, 2 or 10. Under 0 its count is the number of paths answered, refused ones too; a list of fewer than
+ * four places gives 200 with count 0. */
+void rdap_batch(const uint8_t *paths, size_t paths_len, const uint8_t *image, size_t image_len,
+                uint32_t *list, size_t list_len, uint32_t reply[7]);
 
 /* Ask a relation of a record number, as a relation path would for that block's range; reasons 2, 8, 9 and 0
  * occur (S2.3). */

@@ -1,5 +1,5 @@
 /* Every function on the image of one AS block (12 to 15, handle A, name B), with and without room, and with NULL for what is empty.
- * Writes a line for each call. */
+ * Writes a line for each call, and one for the list where it matters. */
 #include <inttypes.h>
 #include <stdio.h>
 #include <string.h>
@@ -15,6 +15,45 @@ static void line(const char *name, const uint32_t *numbers, int n)
     for (int i = 0; i < n; i++)
         printf(" %" PRIu32, numbers[i]);
     putchar('\n');
+}
+
+/* The reply of a batch, and a list of 16 places of which it is lent the first ones. */
+static void batch(const char *name, const char *paths, size_t paths_len, size_t image_len, size_t places)
+{
+    uint32_t list[16];
+    uint32_t reply[7];
+
+    for (int i = 0; i < 16; i++)
+        list[i] = 7;
+    rdap_batch((const uint8_t *)paths, paths_len, image_len == 0 ? NULL : image, image_len,
+               places == 0 ? NULL : list, places, reply);
+    line(name, reply, 7);
+    line("list", list, 16);
+}
+
+static void batches(void)
+{
+    const char *paths = "/autnum/12\n/autnum/16\n/autnums/rirSearch1/down/0-99";
+    char feeds[64];
+
+    memset(feeds, '\n', 64);
+    batch("batch", paths, strlen(paths), 30, 16);
+    batch("14 places", paths, strlen(paths), 30, 14);
+    batch("13 places", paths, strlen(paths), 30, 13);
+    batch("5 places", paths, strlen(paths), 30, 5);
+    batch("4 places", paths, strlen(paths), 30, 4);
+    batch("3 places", paths, strlen(paths), 30, 3);
+    batch("no places", paths, strlen(paths), 30, 0);
+    batch("a feed last", paths, 11, 30, 16);
+    batch("no text", NULL, 0, 30, 16);
+    batch("no text, no places", NULL, 0, 30, 0);
+    batch("64 paths", feeds, 63, 30, 16);
+    batch("65 paths", feeds, 64, 30, 16);
+    batch("65 paths, no places", feeds, 64, 30, 0);
+    batch("65 paths, cut image", feeds, 64, 29, 16);
+    batch("cut image", paths, strlen(paths), 29, 16);
+    batch("no image", paths, strlen(paths), 0, 16);
+    batch("nothing", NULL, 0, 0, 0);
 }
 
 int main(void)
@@ -51,5 +90,6 @@ int main(void)
     line("no record", part, 2);
     rdap_handle(NULL, 0, 0, part);
     line("no image", part, 2);
+    batches();
     return 0;
 }

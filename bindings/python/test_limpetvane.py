@@ -1,12 +1,14 @@
 """usage: RDAP_SO=FOLDER/librdap.so python3 -m unittest discover -s bindings/python"""
 import os
 import pathlib
+import pickle
 import unittest
 
-from limpetvane import Answer, Kind, Library, Refused, Relation
+from limpetvane import PATHS, RECORDS, Answer, Kind, Library, Refused, Relation
 
 LIBRARY = Library(os.environ["RDAP_SO"])
 VECTORS = pathlib.Path(__file__).resolve().parents[2] / "tests" / "vectors"
+S = (VECTORS / "s.image").read_bytes()
 # the image of S13.3: one AS block, 12 to 15, handle A, name B
 EXAMPLE = bytes.fromhex("01000101 120017 200008 0000000C 0000000F 21000141 22000142 23000101")
 
@@ -20,13 +22,36 @@ def line(call):
         return f"{r.status} {r.reason} {int(r.kind)} {r.count}"
 
 
+def vectors():
+    """Each file of paths, with its image and its paths."""
+    files = sorted(VECTORS.rglob("*.paths"))
+    assert VECTORS / "campus.paths" in files
+    for file in files:
+        yield file, file.with_suffix(".image").read_bytes(), file.read_bytes().split(b"\n")[:-1]
+
+
+def value(call, *arguments):
+    """What a call gives or raises."""
+    try:
+        return call(*arguments)
+    except Refused as refusal:
+        return refusal
+
+
+def singly(paths, image, places):
+    """What a batch gives, by single calls."""
+    answers = []
+    for path in paths:
+        if places < 4:
+            break
+        answers.append(value(LIBRARY.answer, path, image, places - 4))
+        places -= 4 + len(getattr(answers[-1], "records", []))
+    return answers
+
+
 class Calls(unittest.TestCase):
     def test_vectors(self):
-        files = sorted(VECTORS.rglob("*.paths"))
-        self.assertIn(VECTORS / "campus.paths", files)
-        for file in files:
-            image = file.with_suffix(".image").read_bytes()
-            paths = file.read_bytes().split(b"\n")[:-1]
+        for file, image, paths in vectors():
             expected = file.with_suffix(".expected").read_text().split("\n")[:-1]
             self.assertEqual(len(paths), len(expected))
             for path, wanted in zip(paths, expected):
@@ -59,6 +84,88 @@ class Calls(unittest.TestCase):
         self.assertEqual((caught.exception.reason, caught.exception.relation), (8, Relation.UP))
         with self.assertRaises(Refused):
             LIBRARY.answer("", b"")
+
+    def test_refusals_as_values(self):
+        refusal = Refused((404, 8, 8, 1, 0, 0, 0))
+        self.assertEqual((str(refusal), refusal.relation), ("status 404, reason 8", Relation.UP))
+        self.assertEqual({refusal, pickle.loads(pickle.dumps(refusal))}, {value(LIBRARY.relation, EXAMPLE, 0, Relation.UP)})
+        self.assertNotEqual(refusal, value(LIBRARY.relation, EXAMPLE, 0, Relation.TOP))
+
+
+class Batches(unittest.TestCase):
+    def refused(self, paths, image, reason, **places):
+        with self.assertRaises(Refused) as caught:
+            LIBRARY.batch(paths, image, **places)
+        self.assertEqual(caught.exception.reason, reason)
+        return caught.exception
+
+    def equal(self, paths, image, places=None):
+        """Holds a batch to the single calls."""
+        room = (4 + RECORDS) * len(paths) if places is None else places
+        got = LIBRARY.batch(paths, image, places)
+        self.assertEqual(got, singly(paths, image, room), (paths, places))
+        return got
+
+    def test_vectors(self):
+        for file, image, paths in vectors():
+            whole = value(LIBRARY.answer, "/help", image)
+            for chunk in (paths[at:at + PATHS] for at in range(0, len(paths), PATHS)):
+                if whole == Answer(Kind.HELP, Relation.NONE, []):
+                    self.assertEqual(len(self.equal(chunk, image)), len(chunk))
+                else:
+                    self.assertEqual(self.refused(chunk, image, 2), whole, file)
+
+    def test_number_of_paths(self):
+        self.assertEqual(len(self.equal(["/help"] * 64, S)), 64)
+        self.assertEqual(self.refused(["/help"] * 65, S, 10).status, 400)
+        self.refused(["/help"] * 100000, S, 10)
+        self.refused(["/help"] * 65, S[:-1], 2)
+        self.assertEqual(self.equal([""], S), [Refused((400, 3, 0, 0, 0, 0, 0))])
+
+    def test_no_paths(self):
+        for places in (None, 0, 4, 100):
+            self.assertEqual(LIBRARY.batch([], S, places), [])
+            refusal = self.refused([], EXAMPLE[:-1], 2, places=places)
+            self.assertEqual((refusal.status, refusal.defect, refusal.place), (500, 3, 0))
+
+    def test_feeds(self):
+        paths = ["/help\n/help", "/ip/192.0.2.1", "\n", b"/help\n", "/" + "a" * 1023 + "\n", "/help\n" + "a" * 1018, "/help"]
+        answers = self.equal(paths, S)
+        self.assertEqual([getattr(a, "reason", 0) for a in answers], [3, 0, 3, 3, 1, 3, 0])
+        self.assertEqual(answers[1].records, [2])
+
+    def test_paths(self):
+        paths = ["", "/help?" + "a" * 1018, "/help?" + "a" * 1019, b"/ip/\x80", "/entity/\u00e9", b"/\xff\xfe", b"/\0", "/help\r", b"/help"]
+        reasons = [getattr(a, "reason", 0) for a in self.equal(paths, S)]
+        self.assertEqual(reasons, [3, 0, 1, 3, 3, 3, 3, 3, 0])
+
+    def test_places(self):
+        paths = ["/ips?name=*", "/ip/192.0.2.1", "/ips/rirSearch1/bottom/192.0.2.0/24", "/x", "/ips/rirSearch1/up/192.0.2.64/26", "/help"]
+        for places in range(50):
+            self.equal(paths, S, places)
+        full = Refused((507, 9, 7, 0, 7, 0, 0))
+        lookup = Answer(Kind.IP, Relation.NONE, [2])
+        wanted = {0: [], 3: [], 4: [full], 5: [full], 9: [full, lookup], 10: [full, lookup]}
+        for places, answers in wanted.items():
+            self.assertEqual(LIBRARY.batch(paths, S, places), answers)
+        self.assertEqual(LIBRARY.batch(paths[1:], S, 4), [Refused((507, 9, 1, 0, 1, 0, 0))])
+        self.assertEqual(LIBRARY.batch(paths[1:], S, 5), [lookup])
+
+    def test_relations(self):
+        paths = [f"/ips/rirSearch1/{r}/192.0.2.0/{length}" for r in ("up", "down", "top", "bottom") for length in (24, 31)]
+        answers = self.equal(paths, S)
+        self.assertEqual([a.relation for a in answers], [1, 1, 2, 2, 3, 3, 4, 4])
+        self.assertEqual(answers[0], Refused((404, 8, 8, 1, 0, 0, 0)))
+        self.assertEqual(self.equal(paths[6:], S, 8), [Refused((507, 9, 8, 4, 5, 0, 0)), Refused((507, 9, 8, 4, 2, 0, 0))])
+        self.equal(["/ips/rirSearch1/%75p/192.0.2.0/24", "/ips/rirSearch1/Up/192.0.2.0/24", "/ips/rirSearch1/up", "/help?/a/up"], S)
+
+    def test_wrong_arguments(self):
+        self.refused(["/help"], EXAMPLE[:-1], 2, places=0)
+        for paths in ("/help", b"/help", bytearray(b"/help")):
+            with self.assertRaises(TypeError):
+                LIBRARY.batch(paths, S)
+        with self.assertRaises(ValueError):
+            LIBRARY.batch(["/help"], S, -1)
 
 
 if __name__ == "__main__":

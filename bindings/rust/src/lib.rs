@@ -6,6 +6,9 @@ use std::fmt;
 /// An image has at most so many records, so a list of so many places is never too short.
 pub const RECORDS: usize = 4096;
 
+/// A batch has at most so many paths.
+pub const PATHS: usize = 64;
+
 #[derive(Clone, Copy, Debug, PartialEq, Eq)]
 pub enum Relation {
     Up,
@@ -58,6 +61,7 @@ type Ask = unsafe extern "C" fn(*const u8, usize, u32, *mut u32, usize, *mut [u3
 
 extern "C" {
     fn rdap_answer(path: *const u8, path_len: usize, image: *const u8, image_len: usize, list: *mut u32, list_len: usize, reply: *mut [u32; 7]);
+    fn rdap_batch(paths: *const u8, paths_len: usize, image: *const u8, image_len: usize, list: *mut u32, list_len: usize, reply: *mut [u32; 7]);
     fn rdap_up(image: *const u8, image_len: usize, record: u32, list: *mut u32, list_len: usize, reply: *mut [u32; 7]);
     fn rdap_down(image: *const u8, image_len: usize, record: u32, list: *mut u32, list_len: usize, reply: *mut [u32; 7]);
     fn rdap_top(image: *const u8, image_len: usize, record: u32, list: *mut u32, list_len: usize, reply: *mut [u32; 7]);
@@ -83,11 +87,15 @@ fn kind(reply: &[u32; 7]) -> Option<Kind> {
     })
 }
 
+fn refusal(reply: &[u32; 7]) -> Refusal {
+    Refusal { status: reply[0], reason: reply[1], kind: kind(reply), count: reply[4], defect: reply[5], place: reply[6] }
+}
+
 /// The kind and the count of an answered reply, or its refusal.
 fn outcome(reply: &[u32; 7]) -> Result<(Kind, usize), Refusal> {
     match (reply[1], kind(reply)) {
         (0, Some(kind)) => Ok((kind, reply[4] as usize)),
-        (_, kind) => Err(Refusal { status: reply[0], reason: reply[1], kind, count: reply[4], defect: reply[5], place: reply[6] }),
+        _ => Err(refusal(reply)),
     }
 }
 
@@ -108,6 +116,52 @@ pub fn answer_into(path: &[u8], image: &[u8], list: &mut [u32]) -> Result<(Kind,
 /// Answers a path with its query.
 pub fn answer(path: &[u8], image: &[u8]) -> Result<Answer, Refusal> {
     listed(|list| answer_into(path, image, list))
+}
+
+/// Answers a text of at most 64 paths, separated by a line feed; an empty text is one empty path. For each path the list gets
+/// status, reason, kind and count, then its record numbers (none if it is refused), until fewer than four places are left;
+/// the rest is unchanged. Gives the number of paths answered. Its own refusals are a defective image and too many paths.
+pub fn batch_into(paths: &[u8], image: &[u8], list: &mut [u32]) -> Result<usize, Refusal> {
+    let mut reply = [0; 7];
+    // As above.
+    unsafe { rdap_batch(paths.as_ptr(), paths.len(), image.as_ptr(), image.len(), list.as_mut_ptr(), list.len(), &mut reply) };
+    match reply[1] {
+        0 => Ok(reply[4] as usize),
+        _ => Err(refusal(&reply)),
+    }
+}
+
+/// The number of the relation that a relation path asks: its third segment, which is compared undecoded (S6.4).
+fn relation_in(path: &[u8]) -> u32 {
+    match path.split(|byte| *byte == b'/').nth(3) {
+        Some(b"up") => 1,
+        Some(b"down") => 2,
+        Some(b"top") => 3,
+        Some(b"bottom") => 4,
+        _ => 0,
+    }
+}
+
+/// Takes the answer of a path off the front of a batch's list.
+fn take(path: &[u8], list: &mut &[u32]) -> Result<Answer, Refusal> {
+    let (head, rest) = list.split_at(4);
+    *list = rest;
+    let (kind, count) = outcome(&[head[0], head[1], head[2], relation_in(path), head[3], 0, 0])?;
+    let (records, rest) = rest.split_at(count);
+    *list = rest;
+    Ok(Answer { kind, records: records.to_vec() })
+}
+
+/// Answers at most 64 paths, each as `answer` does; the image is checked once. A defective image and more paths refuse the whole.
+pub fn batch(paths: &[&[u8]], image: &[u8]) -> Result<Vec<Result<Answer, Refusal>>, Refusal> {
+    // A line feed inside a path would make two paths of it. RFC 3986 allows neither a feed nor a NUL, so the answer is the same.
+    let whole = |path: &&[u8]| -> Vec<u8> { path.iter().map(|byte| if *byte == b'\n' { 0 } else { *byte }).collect() };
+    let text = paths.iter().map(whole).collect::<Vec<_>>().join(&b'\n');
+    // Without paths there is no place, so that the empty path of an empty text is not answered; the image is judged.
+    let mut list = vec![0; (4 + RECORDS) * paths.len().min(PATHS)];
+    let answered = batch_into(&text, image, &mut list)?;
+    let mut list = &list[..];
+    Ok(paths[..answered].iter().map(|path| take(path, &mut list)).collect())
 }
 
 /// Asks a relation of a record number, as a relation path would for that block's range.

@@ -41,20 +41,31 @@ fn line(answer: Result<Answer, Refusal>) -> String {
     }
 }
 
-#[test]
-fn vectors() {
-    let files = paths_below(&Path::new(env!("CARGO_MANIFEST_DIR")).join("../../tests/vectors"));
+fn folder() -> PathBuf {
+    Path::new(env!("CARGO_MANIFEST_DIR")).join("../../tests/vectors")
+}
+
+/// Hands on each file of paths, with its image and its paths.
+fn each(check: impl Fn(&Path, &[u8], &[&[u8]])) {
+    let files = paths_below(&folder());
     assert!(files.iter().any(|file| file.ends_with("campus.paths")));
     for file in files {
         let read = |end: &str| fs::read(file.with_extension(end)).expect(end);
         let (image, paths) = (read("image"), read("paths"));
-        let expected = String::from_utf8(read("expected")).unwrap();
         let paths: Vec<&[u8]> = paths[..paths.len() - 1].split(|b| *b == b'\n').collect();
+        check(&file, &image, &paths);
+    }
+}
+
+#[test]
+fn vectors() {
+    each(|file, image, paths| {
+        let expected = fs::read_to_string(file.with_extension("expected")).unwrap();
         assert_eq!(paths.len(), expected.lines().count());
         for (path, wanted) in paths.iter().zip(expected.lines()) {
-            assert_eq!(line(answer(path, &image)), wanted, "{} {}", file.display(), String::from_utf8_lossy(path));
+            assert_eq!(line(answer(path, image)), wanted, "{} {}", file.display(), String::from_utf8_lossy(path));
         }
-    }
+    });
 }
 
 #[test]
@@ -74,4 +85,95 @@ fn refusals() {
     let up = relation(&EXAMPLE, 0, Relation::Up).unwrap_err();
     assert_eq!((up.reason, up.kind), (8, Some(Kind::Relation(Relation::Up))));
     assert_eq!(answer(b"", b"").unwrap_err().reason, 2);
+}
+
+type Batch = Result<Vec<Result<Answer, Refusal>>, Refusal>;
+
+/// What a batch gives, by single calls; a defective image refuses the whole.
+fn singly(paths: &[&[u8]], image: &[u8]) -> Batch {
+    answer(b"/help", image)?;
+    Ok(paths.iter().map(|path| answer(path, image)).collect())
+}
+
+/// A batch, held to the single calls.
+fn equal(paths: &[&[u8]], image: &[u8]) -> Batch {
+    let got = batch(paths, image);
+    assert_eq!(got, singly(paths, image), "{}", String::from_utf8_lossy(&paths.join(&b'\n')));
+    got
+}
+
+fn registry_s() -> Vec<u8> {
+    fs::read(folder().join("s.image")).unwrap()
+}
+
+/// The reasons of a batch, 0 where a path is answered.
+fn reasons(batch: Batch) -> Vec<u32> {
+    batch.unwrap().iter().map(|one| one.as_ref().err().map_or(0, |refusal| refusal.reason)).collect()
+}
+
+#[test]
+fn batches() {
+    each(|_, image, paths| {
+        for paths in paths.chunks(PATHS) {
+            let _ = equal(paths, image);
+        }
+    });
+}
+
+#[test]
+fn numbers_of_paths() {
+    let (image, help) = (registry_s(), &b"/help"[..]);
+    let defective = &image[..image.len() - 1];
+    assert_eq!(reasons(equal(&[help; 64], &image)), [0; 64]);
+    let many = batch(&[help; 65], &image).unwrap_err();
+    assert_eq!((many.status, many.reason, many.kind, many.count), (400, 10, None, 0));
+    assert_eq!(equal(&[], &image), Ok(vec![]));
+    assert_eq!(reasons(equal(&[b""], &image)), [3]);
+    for paths in [&[][..], &[help], &[help; 65]] {
+        assert_eq!(batch(paths, defective), Err(answer(help, defective).unwrap_err()));
+    }
+}
+
+#[test]
+fn odd_paths() {
+    let image = registry_s();
+    let long = |start: &[u8], length| [start, &vec![b'a'; length - start.len()]].concat();
+    let (good, above) = (long(b"/help?", 1024), long(b"/help?", 1025));
+    let (cut, cut_above) = (long(b"/help\n", 1024), long(b"/help\n", 1025));
+    let paths: [&[u8]; 10] = [b"/help\n/help", b"/ip/192.0.2.1", b"\n", b"", &good, &above, &cut, &cut_above, b"/ip/\x80\xFF", b"/\0"];
+    let answers = equal(&paths, &image);
+    assert_eq!(answers.as_ref().unwrap()[1], Ok(Answer { kind: Kind::Ip, records: vec![2] }));
+    assert_eq!(reasons(answers), [3, 0, 3, 3, 0, 1, 3, 1, 3, 3]);
+}
+
+#[test]
+fn relation_paths() {
+    let image = registry_s();
+    for relation in ["up", "down", "top", "bottom"] {
+        let paths = [24, 31].map(|length| format!("/ips/rirSearch1/{relation}/192.0.2.0/{length}"));
+        let _ = equal(&[paths[0].as_bytes(), paths[1].as_bytes()], &image);
+    }
+    let up = equal(&[b"/ips/rirSearch1/up/192.0.2.0/24"], &image).unwrap()[0].clone().unwrap_err();
+    assert_eq!((up.reason, up.kind), (8, Some(Kind::Relation(Relation::Up))));
+}
+
+#[test]
+fn few_places() {
+    let image = registry_s();
+    let answered = |paths: &[u8], places: usize| {
+        let mut list = [7; 10];
+        (batch_into(paths, &image, &mut list[..places]), list)
+    };
+    for places in [0, 3] {
+        assert_eq!(answered(b"/ip/192.0.2.1", places), (Ok(0), [7; 10]));
+    }
+    assert_eq!(answered(b"/ip/192.0.2.1\n/help", 4), (Ok(1), [507, 9, 1, 1, 7, 7, 7, 7, 7, 7]));
+    assert_eq!(answered(b"/ip/192.0.2.1\n/help", 5), (Ok(1), [200, 0, 1, 1, 2, 7, 7, 7, 7, 7]));
+    assert_eq!(answered(b"/ips?name=*\n/ip/192.0.2.1\n/help", 9), (Ok(2), [507, 9, 7, 7, 200, 0, 1, 1, 2, 7]));
+    assert_eq!(answered(b"/ips/rirSearch1/bottom/192.0.2.0/24\n/help", 8), (Ok(2), [507, 9, 8, 5, 200, 0, 6, 0, 7, 7]));
+    assert_eq!(answered(b"", 10), (Ok(1), [400, 3, 0, 0, 7, 7, 7, 7, 7, 7]));
+    assert_eq!(answered(b"\n", 10), (Ok(2), [400, 3, 0, 0, 400, 3, 0, 0, 7, 7]));
+    assert_eq!(answered(&[b'\n'; 64], 10).0.unwrap_err().reason, 10);
+    let defective = batch_into(b"/help", &EXAMPLE[..29], &mut []).unwrap_err();
+    assert_eq!((defective.reason, defective.defect, defective.place), (2, 3, 0));
 }
