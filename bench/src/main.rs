@@ -5,19 +5,27 @@
 //!
 //! N repetitions (40) of every row, fewer if T seconds (100) are over before.
 //! Every call checks the image. The row `check` is the path `/help`, which does
-//! nothing else. Growth is the time for 4,096 records over that for 2,048.
+//! nothing else; the rows `batch` are 64 lookups in one call. Growth is the time
+//! for 4,096 records over that for 2,048.
 //! `--table` prints the figures for 4,096 records as a table of Markdown.
 
 use model::generate::Draft;
-use model::{fast, generate, subject, Range, Relation, AS, DOMAIN, ENTITY, IPV4, IPV6, NAMESERVER};
+use model::{
+    fast, generate, subject, Part, Range, Record, Relation, AS, DOMAIN, ENTITY, IPV4, IPV6,
+    MOST_PATHS, MOST_RECORDS, NAMESERVER,
+};
 use std::hint::black_box;
+use std::net::{Ipv4Addr, Ipv6Addr};
 use std::time::Instant;
 
 const SIZES: [usize; 5] = [256, 512, 1024, 2048, 4096];
 const SHAPES: [&str; 4] = ["mixed", "flat", "chain", "long"];
 
-/// A batch takes about so many nanoseconds.
-const BATCH: f64 = 150_000.0;
+/// Places of the list: enough for every answer, and for 64 lookups in a batch.
+const PLACES: usize = MOST_RECORDS;
+
+/// A turn takes about so many nanoseconds.
+const TURN: f64 = 150_000.0;
 
 // Images
 
@@ -128,6 +136,7 @@ fn image(shape: &str, count: usize) -> Vec<u8> {
 /// One of the public functions with its input.
 enum Call {
     Answer(Vec<u8>),
+    Batch(Vec<u8>),
     Related(Relation, u32),
     Handle(u32),
     Name(u32),
@@ -137,6 +146,7 @@ impl Call {
     fn fast(&self, image: &[u8], list: &mut [u32]) -> u32 {
         match self {
             Call::Answer(path) => fast::answer(path, image, list).count,
+            Call::Batch(paths) => fast::batch(paths, image, list).count,
             Call::Related(relation, record) => {
                 fast::relation(image, *record, *relation, list).count
             }
@@ -151,6 +161,10 @@ impl Call {
         match self {
             Call::Answer(path) => {
                 subject::answer(path, image, list, &mut reply);
+                reply[4]
+            }
+            Call::Batch(paths) => {
+                subject::batch(paths, image, list, &mut reply);
                 reply[4]
             }
             Call::Related(relation, record) => {
@@ -169,30 +183,72 @@ impl Call {
     }
 }
 
+/// An image and its records, for calls to aim at.
+struct Registry<'a> {
+    image: &'a [u8],
+    records: Vec<Record>,
+}
+
+impl Registry<'_> {
+    fn of_tag(&self, tag: u8) -> Vec<&Record> {
+        let records = self.records.iter();
+        records.filter(|record| record.tag == tag).collect()
+    }
+
+    fn last(&self, tag: u8) -> Option<&Record> {
+        self.of_tag(tag).last().copied()
+    }
+
+    fn text(&self, part: Part) -> String {
+        String::from_utf8_lossy(&self.image[part.offset..][..part.length]).replace(' ', "%20")
+    }
+
+    fn handle(&self, record: Option<&Record>) -> String {
+        record.map_or("none".into(), |record| self.text(record.handle))
+    }
+
+    fn name(&self, record: Option<&Record>) -> String {
+        record.map_or("none".into(), |record| self.text(record.name))
+    }
+
+    /// What a lookup names a record by.
+    fn key(&self, tag: u8, record: Option<&Record>) -> String {
+        let range = record.and_then(|record| record.range);
+        let first = range.map_or(0, |range| range.first);
+        match tag {
+            IPV4 => Ipv4Addr::from(first as u32).to_string(),
+            IPV6 => Ipv6Addr::from(first).to_string(),
+            AS => first.to_string(),
+            ENTITY => self.handle(record),
+            _ => self.name(record),
+        }
+    }
+
+    /// Lookups of records spread over those of a tag, as many as a batch takes.
+    fn batch(&self, start: &str, tag: u8) -> Call {
+        let records = self.of_tag(tag);
+        let paths: Vec<String> = (0..MOST_PATHS)
+            .map(|at| records.get(at * records.len() / MOST_PATHS).copied())
+            .map(|record| format!("{start}{}", self.key(tag, record)))
+            .collect();
+        Call::Batch(paths.join("\n").into_bytes())
+    }
+}
+
 /// The calls measured on an image. Where the image has such records, lookups
-/// and searches find something, and what they find lies at the end.
+/// and searches find something, and what they find lies at the end; a batch
+/// finds records from the first to the last.
 fn calls(image: &[u8]) -> Vec<(String, Call)> {
     let records = model::check(image).expect("a sound image");
-    let last_of = |tag: u8| records.iter().rposition(|record| record.tag == tag);
-    let text = |part: model::Part| {
-        String::from_utf8_lossy(&image[part.offset..][..part.length]).replace(' ', "%20")
-    };
-    let handle_of = |tag| last_of(tag).map_or("none".into(), |at| text(records[at].handle));
-    let name_of = |tag| last_of(tag).map_or("none".into(), |at| text(records[at].name));
-    let range_of = |tag| {
-        let none = Range { first: 0, last: 0 };
-        last_of(tag).map_or(none, |at| records[at].range.unwrap_or(none))
-    };
+    let registry = Registry { image, records };
+    let key_of = |tag| registry.key(tag, registry.last(tag));
+    let handle_of = |tag| registry.handle(registry.last(tag));
+    let name_of = |tag| registry.name(registry.last(tag));
     // A pattern that matches the last sixteen or so.
     let most = |text: String| format!("{}*", &text[..text.len() - 2]);
-    let v4 = std::net::Ipv4Addr::from(range_of(IPV4).first as u32);
-    let v6 = std::net::Ipv6Addr::from(range_of(IPV6).first);
-    let autnum = range_of(AS).first;
-    let last_block = records
-        .iter()
-        .rposition(|record| record.tag == IPV4)
-        .unwrap_or(0) as u32;
-    let last = records.len() as u32 - 1;
+    let (v4, v6, autnum) = (key_of(IPV4), key_of(IPV6), key_of(AS));
+    let last_block = registry.of_tag(IPV4).len().saturating_sub(1) as u32;
+    let last = registry.records.len() as u32 - 1;
 
     let mut calls: Vec<(String, Call)> = Vec::new();
     let mut path = |kind: &str, path: String| {
@@ -202,9 +258,9 @@ fn calls(image: &[u8]) -> Vec<(String, Call)> {
     path("ip v4", format!("/ip/{v4}"));
     path("ip v6", format!("/ip/{v6}"));
     path("autnum", format!("/autnum/{autnum}"));
-    path("domain", format!("/domain/{}", name_of(DOMAIN)));
-    path("nameserver", format!("/nameserver/{}", name_of(NAMESERVER)));
-    path("entity", format!("/entity/{}", handle_of(ENTITY)));
+    path("domain", format!("/domain/{}", key_of(DOMAIN)));
+    path("nameserver", format!("/nameserver/{}", key_of(NAMESERVER)));
+    path("entity", format!("/entity/{}", key_of(ENTITY)));
     let pattern = most(name_of(DOMAIN));
     path("domains name", format!("/domains?name={pattern}"));
     path("domains suffix", "/domains?name=*.example.com".into());
@@ -246,6 +302,14 @@ fn calls(image: &[u8]) -> Vec<(String, Call)> {
     }
     calls.push(("handle".into(), Call::Handle(last)));
     calls.push(("name".into(), Call::Name(last)));
+    for (kind, start, tag) in [
+        ("batch ip v4", "/ip/", IPV4),
+        ("batch ip v6", "/ip/", IPV6),
+        ("batch domain", "/domain/", DOMAIN),
+        ("batch entity", "/entity/", ENTITY),
+    ] {
+        calls.push((kind.into(), registry.batch(start, tag)));
+    }
     calls
 }
 
@@ -264,20 +328,20 @@ impl Cell<'_> {
         self.least.1 / self.least.0
     }
 
-    /// A batch each. They come by turns, and the batches of a cell are spread
-    /// over the whole run, so that other load spoils no cell for good.
+    /// A turn each. Those of a cell are spread over the whole run, so that other
+    /// load spoils no cell for good.
     fn measure(&mut self, list: &mut [u32]) {
         let (image, call) = (black_box(self.image), black_box(&self.call));
-        let took = batch(self.least.0, || call.fast(image, list));
+        let took = turn(self.least.0, || call.fast(image, list));
         self.least.0 = self.least.0.min(took);
-        let took = batch(self.least.1, || call.subject(image, list));
+        let took = turn(self.least.1, || call.subject(image, list));
         self.least.1 = self.least.1.min(took);
     }
 }
 
-/// Nanoseconds a call, of as many as last about BATCH if one lasts `expected`.
-fn batch(expected: f64, mut call: impl FnMut() -> u32) -> f64 {
-    let times = (BATCH / expected).clamp(1.0, 10_000.0) as u32;
+/// Nanoseconds a call, of as many as last about TURN if one lasts `expected`.
+fn turn(expected: f64, mut call: impl FnMut() -> u32) -> f64 {
+    let times = (TURN / expected).clamp(1.0, 10_000.0) as u32;
     black_box(call());
     let start = Instant::now();
     for _ in 0..times {
@@ -327,7 +391,18 @@ impl Options {
 /// The kinds of calls of a shape, and for each the sizes.
 type Rows<'a> = Vec<(String, Vec<Cell<'a>>)>;
 
-fn rows<'a>(images: &'a [Vec<u8>], kind: &Option<String>, list: &mut [u32]) -> Rows<'a> {
+/// Both give the same, in the whole list too.
+fn assert_same(name: &str, call: &Call, image: &[u8]) {
+    let (mut fast, mut library) = ([u32::MAX; PLACES], [u32::MAX; PLACES]);
+    let counts = (
+        call.fast(image, &mut fast),
+        call.subject(image, &mut library),
+    );
+    assert_eq!(counts.0, counts.1, "{name}");
+    assert!(fast == library, "{name}: the lists differ");
+}
+
+fn rows<'a>(images: &'a [Vec<u8>], kind: &Option<String>) -> Rows<'a> {
     let mut rows: Rows = Vec::new();
     for image in images {
         for (at, (name, call)) in calls(image)
@@ -335,8 +410,7 @@ fn rows<'a>(images: &'a [Vec<u8>], kind: &Option<String>, list: &mut [u32]) -> R
             .filter(|(name, _)| kind.as_ref().is_none_or(|kind| name.contains(kind)))
             .enumerate()
         {
-            let (fast, library) = (call.fast(image, list), call.subject(image, list));
-            assert_eq!(fast, library, "{name}");
+            assert_same(&name, &call, image);
             if rows.len() == at {
                 rows.push((name, Vec::new()));
             }
@@ -402,7 +476,7 @@ fn print_table(shapes: &[(&str, Vec<Vec<u8>>)], tables: &[Rows]) {
 
 fn main() {
     let options = Options::read();
-    let mut list = vec![0; model::MOST_RECORDS];
+    let mut list = vec![0; PLACES];
     let shapes: Vec<(&str, Vec<Vec<u8>>)> = SHAPES
         .into_iter()
         .filter(|name| options.shape.as_ref().is_none_or(|shape| shape == name))
@@ -410,7 +484,7 @@ fn main() {
         .collect();
     let mut tables: Vec<Rows> = shapes
         .iter()
-        .map(|(_, images)| rows(images, &options.kind, &mut list))
+        .map(|(_, images)| rows(images, &options.kind))
         .collect();
     let start = Instant::now();
     let mut done = 0;

@@ -1,12 +1,13 @@
-//! Images and paths to compare implementations on, made from a seed.
+//! Images, paths and batches of paths to compare implementations on, made from a
+//! seed.
 //!
 //! Sound images have many shapes; damaged ones start from a sound one. Paths
 //! aim at what the image holds, so that most of them reach the records, and a
 //! part of them is then spoilt.
 
 use crate::{
-    Checked, Range, AS, DOMAIN, ENTITY, IPV4, IPV6, LONGEST_IMAGE, MOST_RECORDS, NAMESERVER,
-    RELATIONS, START,
+    Checked, Range, AS, DOMAIN, ENTITY, IPV4, IPV6, LONGEST_IMAGE, LONGEST_PATH, MOST_PATHS,
+    MOST_RECORDS, NAMESERVER, RELATIONS, START,
 };
 use crate::{Record, Relation};
 
@@ -828,6 +829,11 @@ impl Aims {
         }
     }
 
+    /// Whether the model is slow on the image.
+    pub fn is_large(&self) -> bool {
+        self.records > 400
+    }
+
     fn block(&self, rng: &mut Rng, family: u8) -> Range {
         let blocks: Vec<Range> = self
             .blocks
@@ -904,7 +910,110 @@ pub fn places(rng: &mut Rng, count: usize) -> usize {
     }
 }
 
+/// How many places there must be for a batch, whatever its paths ask for.
+pub fn enough_places(text: &[u8], aims: &Aims) -> usize {
+    let paths = text.split(|&byte| byte == b'\n').count();
+    paths.min(MOST_PATHS) * (4 + aims.records)
+}
+
+/// Reason and end of each of the `count` answers in the list of a batch.
+pub fn answers(list: &[u32], count: u32) -> Vec<(u32, usize)> {
+    let mut end = 0;
+    (0..count)
+        .map(|_| {
+            let (reason, count) = (list[end + 1], list[end + 3]);
+            end += 4 + if reason == 0 { count as usize } else { 0 };
+            (reason, end)
+        })
+        .collect()
+}
+
+/// A length for the list of a batch whose answers, where there are enough
+/// places, are these.
+pub fn batch_places(rng: &mut Rng, answers: &[(u32, usize)]) -> usize {
+    let all = answers.last().map_or(0, |answer| answer.1);
+    match rng.below(8) {
+        0 => rng.below(6),
+        1 => all,
+        2 => all.saturating_sub(1),
+        3 => all + rng.below(6),
+        // about the end of an answer
+        4 | 5 if all > 0 => {
+            let end = rng.pick(answers).1;
+            (end + rng.below(7)).saturating_sub(2)
+        }
+        _ => rng.below(all + 1),
+    }
+}
+
 // Paths
+
+/// A text of paths that aim at the image, few where the image is large.
+pub fn batch(rng: &mut Rng, aims: &Aims) -> Vec<u8> {
+    let count = match rng.below(50) {
+        _ if aims.is_large() => rng.between(1, 3),
+        0 => *rng.pick(&ABOUT_MOST_PATHS),
+        _ => rng.between(1, 8),
+    };
+    let mut paths: Vec<Vec<u8>> = (0..count).map(|_| batch_path(rng, aims)).collect();
+    // short paths before and after these
+    if rng.once_in(30) {
+        let more = match rng.below(4) {
+            0 => rng.between(67, 1000),
+            _ => *rng.pick(&ABOUT_MOST_PATHS),
+        };
+        let short = rng.word(" / /help /ip/::1 /autnum/12 /domains?name=a*");
+        paths.resize(more.max(count), short.to_vec());
+        let before = rng.below(paths.len());
+        paths.rotate_right(before);
+    }
+    let mut text = paths.join(&b'\n');
+    spoil_batch(rng, &mut text);
+    text
+}
+
+/// Numbers of paths about the limit.
+const ABOUT_MOST_PATHS: [usize; 4] = [MOST_PATHS - 1, MOST_PATHS, MOST_PATHS + 1, MOST_PATHS + 2];
+
+/// A path for a batch, now and then empty or of a length about the limit or far
+/// past it.
+fn batch_path(rng: &mut Rng, aims: &Aims) -> Vec<u8> {
+    let mut path = path(rng, aims);
+    match rng.below(400) {
+        0..=9 => path.clear(),
+        10..=13 => stretch(rng, &mut path, LONGEST_PATH),
+        14..=17 => stretch(rng, &mut path, LONGEST_PATH + 1),
+        18 => {
+            let length = rng.between(LONGEST_PATH, 70_000);
+            stretch(rng, &mut path, length);
+        }
+        _ => {}
+    }
+    path
+}
+
+/// Adds feeds at the ends or anywhere, and bytes that are no part of a path.
+fn spoil_batch(rng: &mut Rng, text: &mut Vec<u8>) {
+    let at = rng.below(text.len() + 1);
+    match rng.below(40) {
+        0 => text.clear(),
+        1 | 2 => text.push(b'\n'),
+        3 => text.extend(b"\n\n"),
+        4 => text.insert(0, b'\n'),
+        5 => text.insert(at, b'\n'),
+        6 => insert(text, at, b"\r\n"),
+        7 => text.insert(at, rng.between(0x80, 0xFF) as u8),
+        // a feed with its high bit, or that is written as an escape
+        8 => insert(text, at, b"\x8A"),
+        9 => insert(text, at, b"%0A"),
+        // a feed beside one
+        10 => {
+            let feed = text.iter().position(|&byte| byte == b'\n');
+            text.insert(feed.unwrap_or(at), b'\n');
+        }
+        _ => {}
+    }
+}
 
 /// A path that aims at the image, most of the time without a fault.
 pub fn path(rng: &mut Rng, aims: &Aims) -> Vec<u8> {
@@ -924,14 +1033,14 @@ pub fn path(rng: &mut Rng, aims: &Aims) -> Vec<u8> {
         }
     }
     if rng.once_in(150) {
-        stretch(rng, &mut path);
+        let length = rng.between(1022, 1027);
+        stretch(rng, &mut path, length);
     }
     path
 }
 
-/// Lengthens a path to about 1,024 bytes.
-fn stretch(rng: &mut Rng, path: &mut Vec<u8>) {
-    let length = rng.between(1022, 1027);
+/// Lengthens a path to `length` bytes.
+fn stretch(rng: &mut Rng, path: &mut Vec<u8>, length: usize) {
     if path.len() + 3 < length {
         path.push(if path.contains(&b'?') { b'&' } else { b'?' });
         path.push(b'x');

@@ -11,6 +11,8 @@ pub mod subject;
 
 /// "path longer than 1,024 bytes"
 pub const LONGEST_PATH: usize = 1024;
+/// "paths separated by a line feed [...], at most 64"
+pub const MOST_PATHS: usize = 64;
 /// "At most 262,144 bytes and 4,096 records."
 pub const LONGEST_IMAGE: usize = 262_144;
 pub const MOST_RECORDS: usize = 4096;
@@ -122,7 +124,8 @@ impl Reply {
         ]
     }
 
-    /// A refusal by reasons 1 to 7: "Kind is 0 under reasons 1 to 7".
+    /// A refusal by reasons 1 to 7: "Kind is 0 under reasons 1 to 7". Or by
+    /// reason 10: "its own kind is always 0".
     pub fn refused(reason: u32) -> Reply {
         Reply {
             status: status(reason),
@@ -147,7 +150,7 @@ pub fn status(reason: u32) -> u32 {
         0 => 200,
         1 => 414,
         2 => 500,
-        3 | 6 => 400,
+        3 | 6 | 10 => 400,
         4 | 5 => 501,
         7 => 422,
         8 => 404,
@@ -161,6 +164,11 @@ pub fn status(reason: u32) -> u32 {
 /// The first call.
 pub fn answer(path: &[u8], image: &[u8], list: &mut [u32]) -> Reply {
     answer_checked(path, image, &check(image), list)
+}
+
+/// The call over many paths.
+pub fn batch(text: &[u8], image: &[u8], list: &mut [u32]) -> Reply {
+    batch_checked(text, image, &check(image), list)
 }
 
 /// The third call: "asks a relation of a record number, as a relation path
@@ -204,6 +212,46 @@ pub fn answer_checked(path: &[u8], image: &[u8], checked: &Checked, list: &mut [
     };
     let (kind, relation) = query.kind();
     report(kind, relation, query.find(image, records), list)
+}
+
+pub fn batch_checked(text: &[u8], image: &[u8], checked: &Checked, list: &mut [u32]) -> Reply {
+    // "A bad image gives the call reason 2, more than 64 paths [...] reason 10,
+    // status 400, checked after it; both write nothing."
+    if let Err(defect) = checked {
+        return Reply::defective(*defect);
+    }
+    // "paths separated by a line feed (no feed after the last; an empty text is
+    // one empty path), at most 64"
+    let paths: Vec<&[u8]> = text.split(|&byte| byte == b'\n').collect();
+    if paths.len() > MOST_PATHS {
+        return Reply::refused(10);
+    }
+    let (mut answered, mut at) = (0, 0);
+    for path in paths {
+        // "If fewer than four places are left, it stops."
+        if list.len() - at < 4 {
+            break;
+        }
+        // "Each answer equals that of a single call whose list is the places
+        // left after its four numbers"
+        let reply = answer_checked(path, image, checked, &mut list[at + 4..]);
+        // "The result list gets, for each path, status, reason, kind and count,
+        // then its record numbers."
+        list[at..at + 4].copy_from_slice(&[reply.status, reply.reason, reply.kind, reply.count]);
+        at += 4;
+        // "a refused path adds no record numbers"
+        if reply.reason == 0 {
+            at += reply.count as usize;
+        }
+        answered += 1;
+    }
+    // "The call's own reason is 0, with the number of paths answered as count;
+    // its own kind is always 0; places after the last answer are unchanged."
+    Reply {
+        status: status(0),
+        count: answered,
+        ..Reply::default()
+    }
 }
 
 pub fn relation_checked(

@@ -19,6 +19,15 @@ mod calls {
             list_len: usize,
             reply: *mut u32,
         );
+        fn rdap_batch(
+            paths: *const u8,
+            paths_len: usize,
+            image: *const u8,
+            image_len: usize,
+            list: *mut u32,
+            list_len: usize,
+            reply: *mut u32,
+        );
         fn rdap_up(
             image: *const u8,
             image_len: usize,
@@ -55,13 +64,17 @@ mod calls {
         fn rdap_name(image: *const u8, image_len: usize, record: u32, part: *mut u32);
     }
 
-    #[inline]
-    pub fn answer(path: &[u8], image: &[u8], list: &mut [u32], reply: &mut [u32; 7]) {
+    /// A function that takes a text, an image and a list.
+    type OnText =
+        unsafe extern "C" fn(*const u8, usize, *const u8, usize, *mut u32, usize, *mut u32);
+
+    #[inline(always)]
+    fn on_text(call: OnText, text: &[u8], image: &[u8], list: &mut [u32], reply: &mut [u32; 7]) {
         // The pointers and lengths are those of the slices.
         unsafe {
-            rdap_answer(
-                path.as_ptr(),
-                path.len(),
+            call(
+                text.as_ptr(),
+                text.len(),
                 image.as_ptr(),
                 image.len(),
                 list.as_mut_ptr(),
@@ -69,6 +82,16 @@ mod calls {
                 reply.as_mut_ptr(),
             )
         }
+    }
+
+    #[inline]
+    pub fn answer(path: &[u8], image: &[u8], list: &mut [u32], reply: &mut [u32; 7]) {
+        on_text(rdap_answer, path, image, list, reply);
+    }
+
+    #[inline]
+    pub fn batch(paths: &[u8], image: &[u8], list: &mut [u32], reply: &mut [u32; 7]) {
+        on_text(rdap_batch, paths, image, list, reply);
     }
 
     #[inline]
@@ -121,6 +144,11 @@ mod calls {
     }
 
     #[inline]
+    pub fn batch(paths: &[u8], image: &[u8], list: &mut [u32], reply: &mut [u32; 7]) {
+        *reply = fast::batch(paths, image, list).numbers();
+    }
+
+    #[inline]
     pub fn relation(
         relation: Relation,
         image: &[u8],
@@ -142,4 +170,4 @@ mod calls {
     }
 }
 
-pub use calls::{answer, handle, name, relation, NAME};
+pub use calls::{answer, batch, handle, name, relation, NAME};

@@ -71,6 +71,46 @@ fn same_answers() {
 }
 
 #[test]
+fn same_batches() {
+    let mut rng = Rng::new(5);
+    let (mut reasons, mut within) = ([0; 11], [0; 11]);
+    for number in 0..20_000 {
+        let image = match number % 5 {
+            0 => generate::damaged(&mut rng),
+            _ => generate::sound(&mut rng),
+        };
+        let checked = model::check(&image);
+        let aims = Aims::new(&image, &checked);
+        let text = generate::batch(&mut rng, &aims);
+        let plain = |list: &mut [u32]| model::batch_checked(&text, &image, &checked, list);
+        let enough = generate::enough_places(&text, &aims);
+        let (full, list) = with_list(enough, plain);
+        let answers = generate::answers(&list, full.count);
+        for places in [enough, generate::batch_places(&mut rng, &answers)] {
+            let expected = with_list(places, plain);
+            assert_eq!(
+                with_list(places, |list| fast::batch(&text, &image, list)),
+                expected,
+                "{} on {}",
+                text.escape_ascii(),
+                image.escape_ascii()
+            );
+            reasons[expected.0.reason as usize] += 1;
+            for (reason, _) in generate::answers(&expected.1, expected.0.count) {
+                within[reason as usize] += 1;
+            }
+        }
+    }
+    println!("batches by reason from 0: {reasons:?}, answers in them: {within:?}");
+    // A batch has the reasons 0, 2 and 10, its answers all others.
+    for reason in 0..=10 {
+        let refuses_all = reason == 2 || reason == 10;
+        assert_eq!(reasons[reason] > 0, reason == 0 || refuses_all, "{reason}");
+        assert_eq!(within[reason] > 0, !refuses_all, "{reason}");
+    }
+}
+
+#[test]
 fn same_defects() {
     let mut rng = Rng::new(3);
     let mut defects = [0; 8];
@@ -114,6 +154,13 @@ fn same_on_large_images() {
                 )),
             );
         }
+        let text = generate::batch(&mut rng, &aims);
+        assert_eq!(
+            with_list(4096, |list| fast::batch(&text, &image, list)),
+            with_list(4096, |list| model::batch_checked(
+                &text, &image, &checked, list
+            )),
+        );
         let record = generate::record(&mut rng, &aims);
         for relation in RELATIONS {
             assert_eq!(

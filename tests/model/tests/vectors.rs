@@ -13,6 +13,7 @@ const FILL: u32 = 0xA5A5_5A5A;
 struct Calls {
     name: &'static str,
     answer: fn(&[u8], &[u8], &mut [u32]) -> Reply,
+    batch: fn(&[u8], &[u8], &mut [u32]) -> Reply,
     relation: fn(&[u8], u32, Relation, &mut [u32]) -> Reply,
     handle: fn(&[u8], u32) -> &[u8],
     name_of: fn(&[u8], u32) -> &[u8],
@@ -23,6 +24,7 @@ const BOTH: [Calls; 2] = [
     Calls {
         name: "plain",
         answer: model::answer,
+        batch: model::batch,
         relation: model::relation,
         handle: model::handle,
         name_of: model::name,
@@ -33,15 +35,10 @@ const BOTH: [Calls; 2] = [
     },
     Calls {
         name: subject::NAME,
-        answer: |path, image, list| {
-            let mut reply = [0; 7];
-            subject::answer(path, image, list, &mut reply);
-            reply_of(reply)
-        },
+        answer: |path, image, list| reply_of(|reply| subject::answer(path, image, list, reply)),
+        batch: |paths, image, list| reply_of(|reply| subject::batch(paths, image, list, reply)),
         relation: |image, record, relation, list| {
-            let mut reply = [0; 7];
-            subject::relation(relation, image, record, list, &mut reply);
-            reply_of(reply)
+            reply_of(|reply| subject::relation(relation, image, record, list, reply))
         },
         handle: |image, record| {
             let mut part = [0; 2];
@@ -54,14 +51,17 @@ const BOTH: [Calls; 2] = [
             part_of(image, part)
         },
         defect: |image| {
-            let mut reply = [0; 7];
-            subject::answer(b"/help", image, &mut [], &mut reply);
-            (reply[5], reply[6])
+            let reply = reply_of(|reply| subject::answer(b"/help", image, &mut [], reply));
+            (reply.defect, reply.place)
         },
     },
 ];
 
-fn reply_of([status, reason, kind, relation, count, defect, place]: [u32; 7]) -> Reply {
+/// The reply that a call writes.
+fn reply_of(call: impl FnOnce(&mut [u32; 7])) -> Reply {
+    let mut reply = [FILL; 7];
+    call(&mut reply);
+    let [status, reason, kind, relation, count, defect, place] = reply;
     Reply {
         status,
         reason,
@@ -201,7 +201,29 @@ fn run_paths(name: &str) {
             tally.row(path, expected, &line(reply, &list));
         }
         tally.close();
+        if (calls.defect)(&image) == (0, 0) {
+            run_batches(name, calls, &image, &paths, &expected);
+        }
     }
+}
+
+/// The same paths, as many a call as it takes: the list holds the numbers of
+/// their lines.
+fn run_batches(name: &str, calls: &Calls, image: &[u8], paths: &[&[u8]], expected: &[&[u8]]) {
+    let mut tally = Tally::new(format!("{name} in batches ({})", calls.name));
+    let most = model::MOST_PATHS;
+    for (paths, expected) in paths.chunks(most).zip(expected.chunks(most)) {
+        let paths = paths.join(&b'\n');
+        let mut list = vec![FILL; most * (4 + PLACES)];
+        let reply = (calls.batch)(&paths, image, &mut list);
+        assert_eq!(
+            reply.numbers(),
+            [200, 0, 0, 0, expected.len() as u32, 0, 0],
+            "{name}"
+        );
+        tally.row(&paths, &expected.join(&b' '), &column(written(&list)));
+    }
+    tally.close();
 }
 
 #[test]
@@ -301,9 +323,11 @@ fn defects() {
         tally.row(row[0], &expected, format!("{defect} {place}").as_bytes());
 
         // The calls say the same, and a defective image has no parts.
-        let reply = (calls.answer)(b"/help", &image, &mut []);
-        assert_eq!((reply.defect, reply.place), (defect, place));
-        assert_eq!(reply.reason, if defect == 0 { 0 } else { 2 });
+        for call in [calls.answer, calls.batch] {
+            let reply = call(b"/help", &image, &mut []);
+            assert_eq!((reply.defect, reply.place), (defect, place));
+            assert_eq!(reply.reason, if defect == 0 { 0 } else { 2 });
+        }
         let reply = (calls.relation)(&image, 0, Relation::Up, &mut []);
         assert_eq!((reply.defect, reply.place), (defect, place));
         if defect != 0 {
@@ -331,6 +355,12 @@ fn column(numbers: &[u32]) -> Vec<u8> {
     if text.is_empty() { "-".into() } else { text }.into()
 }
 
+/// The list up to the last place that was written.
+fn written(list: &[u32]) -> &[u32] {
+    let end = list.iter().rposition(|&place| place != FILL);
+    &list[..end.map_or(0, |at| at + 1)]
+}
+
 /// What a call replies and what it writes, as the row has it.
 fn run_row(calls: &Calls, folder: &str, row: &[&[u8]]) -> [Vec<u8>; 2] {
     let image = input(folder, row[1]);
@@ -347,21 +377,19 @@ fn run_row(calls: &Calls, folder: &str, row: &[&[u8]]) -> [Vec<u8>; 2] {
         places => vec![FILL; number(places)],
     };
     let name = row[0].strip_prefix(b"rdap_").expect("a function for C");
+    let text = || input(folder, row[2]);
+    let numbers = |reply: Reply| reply.numbers().to_vec();
     let reply = match name {
-        b"answer" => (calls.answer)(&input(folder, row[2]), &image, &mut list)
-            .numbers()
-            .to_vec(),
+        b"answer" => numbers((calls.answer)(&text(), &image, &mut list)),
+        b"batch" => numbers((calls.batch)(&text(), &image, &mut list)),
         b"handle" => span((calls.handle)(&image, record())),
         b"name" => span((calls.name_of)(&image, record())),
-        relation => (calls.relation)(&image, record(), relation_named(relation), &mut list)
-            .numbers()
-            .to_vec(),
+        relation => {
+            let relation = relation_named(relation);
+            numbers((calls.relation)(&image, record(), relation, &mut list))
+        }
     };
-    let written = list
-        .iter()
-        .rposition(|&place| place != FILL)
-        .map_or(0, |at| at + 1);
-    [column(&reply), column(&list[..written])]
+    [column(&reply), column(written(&list))]
 }
 
 /// Each folder of `changes` holds the rules as they stand after the change of

@@ -13,7 +13,7 @@ use model::{subject, Checked, Relation, RELATIONS};
 use std::process::ExitCode;
 use std::time::{Duration, Instant};
 
-const FUNCTIONS: [&str; 7] = [
+const FUNCTIONS: [&str; 8] = [
     "rdap_answer",
     "rdap_up",
     "rdap_down",
@@ -21,10 +21,15 @@ const FUNCTIONS: [&str; 7] = [
     "rdap_bottom",
     "rdap_handle",
     "rdap_name",
+    "rdap_batch",
 ];
 const ANSWER: usize = 0;
 const HANDLE: usize = 5;
 const NAME: usize = 6;
+const BATCH: usize = 7;
+
+/// How often each reason occurred.
+type Reasons = [u64; 11];
 
 /// After so many differences the run stops.
 const ENOUGH: u64 = 10;
@@ -121,8 +126,11 @@ fn pattern(place: usize) -> u32 {
 
 struct Run {
     options: Options,
-    calls: [u64; 7],
-    reasons: [u64; 10],
+    calls: [u64; FUNCTIONS.len()],
+    reasons: Reasons,
+    /// Those of the batches, and of the answers within them.
+    batches: Reasons,
+    answers: Reasons,
     defects: [u64; 8],
     failed: u64,
     path: Guarded<u8>,
@@ -151,9 +159,8 @@ impl Run {
         // The model is slow on large images, and a defective one has but one
         // answer.
         let rounds = match &checked {
-            Err(_) => 3,
-            Ok(records) if records.len() > 400 => 3,
-            Ok(_) => 60,
+            Ok(_) if !aims.is_large() => 60,
+            _ => 3,
         };
         let shift = rng.below(8);
         self.image.place(image.iter().copied(), shift);
@@ -163,6 +170,7 @@ impl Run {
             }
             let path = generate::path(&mut rng, &aims);
             self.answer(number, &mut rng, &path, &image, &checked);
+            self.batch(number, &mut rng, &aims, &image, &checked);
             for relation in RELATIONS {
                 let record = generate::record(&mut rng, &aims);
                 self.relation(number, &mut rng, relation, record, &image, &checked);
@@ -191,6 +199,34 @@ impl Run {
         );
         let unchanged = self.path.contents() == path && self.path.is_intact();
         self.judge(number, ANSWER, path, 0, image, wanted, &expected, unchanged);
+    }
+
+    fn batch(&mut self, number: u64, rng: &mut Rng, aims: &Aims, image: &[u8], checked: &Checked) {
+        let text = generate::batch(rng, aims);
+        let places = generate::enough_places(&text, aims);
+        let mut expected: Vec<u32> = (0..places).map(pattern).collect();
+        let mut wanted = model::batch_checked(&text, image, checked, &mut expected);
+        if !rng.once_in(3) {
+            let answers = generate::answers(&expected, wanted.count);
+            let places = generate::batch_places(rng, &answers);
+            expected = (0..places).map(pattern).collect();
+            wanted = model::batch_checked(&text, image, checked, &mut expected);
+        }
+        self.batches[wanted.reason as usize] += 1;
+        for (reason, _) in generate::answers(&expected, wanted.count) {
+            self.answers[reason as usize] += 1;
+        }
+
+        self.trace(number, BATCH, &format!("{}", text.escape_ascii()));
+        self.prepare(rng, &text, expected.len());
+        subject::batch(
+            self.path.contents(),
+            self.image.contents(),
+            self.list.contents_mut(),
+            as_reply(&mut self.reply),
+        );
+        let unchanged = self.path.contents() == text && self.path.is_intact();
+        self.judge(number, BATCH, &text, 0, image, wanted, &expected, unchanged);
     }
 
     fn relation(
@@ -258,9 +294,9 @@ impl Run {
             return;
         }
         self.report(number, function, image);
-        if function == ANSWER {
-            println!("  path     {}", path.escape_ascii());
-            println!("  path hex {}", hex(path));
+        if function == ANSWER || function == BATCH {
+            println!("  text     {}", path.escape_ascii());
+            println!("  in hex   {}", hex(path));
         } else {
             println!("  record   {record}");
         }
@@ -360,8 +396,10 @@ fn main() -> ExitCode {
     let only = options.image;
     let mut run = Run {
         options,
-        calls: [0; 7],
-        reasons: [0; 10],
+        calls: [0; FUNCTIONS.len()],
+        reasons: [0; 11],
+        batches: [0; 11],
+        answers: [0; 11],
         defects: [0; 8],
         failed: 0,
         path: Guarded::new(0xC3),
@@ -389,6 +427,8 @@ fn main() -> ExitCode {
     );
     println!("images by defect, from 0 (sound): {:?}", run.defects);
     println!("replies by reason, from 0: {:?}", run.reasons);
+    println!("of these, batches: {:?}", run.batches);
+    println!("answers in batches, by reason: {:?}", run.answers);
     for (name, calls) in FUNCTIONS.iter().zip(run.calls) {
         println!("{name:12} {calls:>9} calls");
     }
