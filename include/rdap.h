@@ -67,7 +67,7 @@ enum {
 void rdap_answer(const uint8_t *path, size_t path_len, const uint8_t *image, size_t image_len,
                  uint32_t *list, size_t list_len, uint32_t reply[7]);
 
-/* Answers a text of at most 64 paths, separated by a line feed, from an image that is checked once (S2.4). A feed after the
+/* Answers a text of at most 64 paths, separated by a line feed, from an image that is checked once (S2.5). A feed after the
  * last path makes one more, empty path; an empty text is one empty path. The text may have any length. A path that holds
  * a feed is cut there: to keep answers and paths in step, put a NUL in its place, which is refused as the feed would be.
  * For each path in turn the list gets status, reason, kind and count, then its record numbers: what rdap_answer gives with

@@ -1,4 +1,4 @@
--- Many paths in one call (S2.4): paths separated by a line feed, each answered as the first call answers it.
+-- Many paths in one call (S2.5): paths separated by a line feed, each answered as the first call answers it.
 use Prim.Native.Nat.{ℕ, _-_}
 use Prim.Native.Char.{code}
 use mathlib.Core.List.{List, [], _∷_, _++_}

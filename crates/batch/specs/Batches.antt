@@ -1,4 +1,4 @@
--- What holds of every batch (S2.4): each answer is that of the first call. Proved in proofs/Batches.antt.
+-- What holds of every batch (S2.5): each answer is that of the first call. Proved in proofs/Batches.antt.
 use Prim.Native.Nat.{ℕ, suc, _+_, _-_, _≤_, _<_}
 use mathlib.Core.Path.{_≡_}
 use mathlib.Core.List.{List, [], _++_}

@@ -1,4 +1,4 @@
-// Many paths in one call (S2.4), on an image that is checked already: each answer is written to the rest of the list.
+// Many paths in one call (S2.5), on an image that is checked already: each answer is written to the rest of the list.
 ghost use Prim.Native.Nat.{_-_, _≤_};
 ghost use mathlib.Core.Path.{_≡_};
 ghost use mathlib.Core.List.{[], _++_};
