@@ -1,16 +1,19 @@
 -- The answers of a batch: each is that of a single call, they fit, and they stop only where fewer than four places are left.
-use Prim.Native.Nat.{ℕ, zero, suc, _+_, _-_, _≤_, _<_}
+use Prim.Native.Nat.{ℕ, zero, suc, _+_, _-_, _*_, _≤_, _<_}
 use mathlib.Core.Bool.{Bool, true, false, cond}
 use mathlib.Core.Path.{_≡_, refl, sym, ap, _∙_}
 use mathlib.Core.List.{List, [], _∷_, _++_, append-assoc}
 use native.Mathlib.Omega.{arith}
+use native.Mathlib.Decide.{decLe}
 use borrow.Author.Tests.{ltb-true, ltb-false, lt-ltb, le-ltb}
 use lib.Dec.{ltb}
 use lib.ListN.{length, getD, take, drop, length-append, length-drop}
+use lib.Seq.{take-length}
 use Rattle.image.specs.Image.{Image, sound, defective, imageOf}
 use Rattle.answers.specs.Reply.{Reply, ofReason, refusal, ofDefect, line, listAfter}
 use Rattle.calls.specs.Calls.{answerIn, answerOf}
-use Rattle.calls.proofs.Replies.{first-consistent, fits}
+use Rattle.calls.proofs.Few.{first-few}
+use Rattle.calls.proofs.Replies.{first-consistent, fits, counts-them, replies}
 use Rattle.batch.specs.Batch.{pathsOf, lines, answersIn, ofAnswers, batchIn, batchOf}
 use Rattle.batch.specs.Batches.{AnswerAt, Batches}
 
@@ -120,6 +123,25 @@ module _ (image : Image) where
       one-more path paths places replies h p zero k = here path paths places replies h
       one-more path paths places replies h p (suc i) k = further path paths places replies i h (p i (omega arith))
 
+-- Of an image's answers none is longer than 4,100 places
+lines-few : (image : List ℕ) (paths : List (List ℕ)) (places i : ℕ) → length (lines (take i (answersIn (imageOf image) paths places))) ≤ 4100 * i
+unfolding lines
+lines-few image =
+    by-answers (imageOf image) (λ paths places replies. (i : ℕ) → length (lines (take i replies)) ≤ 4100 * i) (λ places. nothing) (λ paths places h. nothing) one-more
+  where
+    nothing : (i : ℕ) → length (lines (take i [])) ≤ 4100 * i
+    nothing zero = omega arith
+    nothing (suc i) = omega arith
+
+    one-more :
+        (path : List ℕ) (paths : List (List ℕ)) (places : ℕ) (replies : List Reply) → 4 ≤ places → ((i : ℕ) → length (lines (take i replies)) ≤ 4100 * i)
+        → (i : ℕ) → length (lines (take i (first (imageOf image) path places ∷ replies))) ≤ 4100 * i
+    one-more path paths places replies h p zero = omega arith
+    one-more path paths places replies h p (suc i) =
+        let r : Reply = first (imageOf image) path places in
+        rw (length-append (line r) (lines (take i replies)))
+        (omega (arith, p i, length-line r, counts-them (first-consistent path (imageOf image) (places - 4)), first-few path image (places - 4)))
+
 -- The call, by the verdict on the image and the number of paths: a refusal, or the answers of a sound image
 
 data Outcome (image : Image) (paths : List (List ℕ)) (places : ℕ) : Reply → Type 0 where
@@ -153,10 +175,27 @@ module _ {image : Image} {paths : List (List ℕ)} {places : ℕ} where
   few-in (refuses r c e) = omega arith
   few-in (answers few) = omega (arith, few-answers image paths places)
 
+  -- no more answers than paths
+  count-few : {reply : Reply} → Outcome image paths places reply → reply .count ≤ length paths
+  unfolding ofAnswers ofReason
+  count-few (refuses r c e) = omega arith
+  count-few (answers few) = few-answers image paths places
+
   written-in : {reply : Reply} → Outcome image paths places reply → length (reply .records) ≤ places
   unfolding ofAnswers ofReason
   written-in (refuses r c e) = rw e (omega arith)
   written-in (answers few) = lines-fit image paths places
+
+  all-in :
+      {reply : Reply} → Outcome image paths places reply → length (lines (take (length (answersIn image paths places)) (answersIn image paths places))) ≤ 4100 * length (answersIn image paths places)
+      → 4100 * length paths ≤ places → reply .reason ≡ 0 → reply .count ≡ length paths
+  unfolding ofAnswers ofReason
+  all-in (refuses r c e) l h z = absurd (omega arith)
+  all-in (answers few) l h z = go (decLe (length paths) (length (answersIn image paths places)))
+    where
+      go : Dec (length paths ≤ length (answersIn image paths places)) → length (answersIn image paths places) ≡ length paths
+      go (yes k) = omega (arith, few-answers image paths places)
+      go (no k) = let t = rw (take-length (answersIn image paths places)) at l in absurd (omega (arith, stopped image paths places (omega arith)))
 
 pub batches : Batches
 unfolding batchOf answerOf listAfter
@@ -166,6 +205,11 @@ batches =
           let e = each-in (outcome (imageOf image) (pathsOf text) places) i h in
           record { room = e .0 .room; stands = e .1 ∙ e .0 .stands };
       stopped = λ text image places z h. stopped-in (outcome (imageOf image) (pathsOf text) places) z h;
+      enough = λ text image places h z.
+          all-in (outcome (imageOf image) (pathsOf text) places) (lines-few image (pathsOf text) places (length (answersIn (imageOf image) (pathsOf text) places))) h z;
+      enough-each = λ text image places i h k.
+          let all = count-few (outcome (imageOf image) (pathsOf text) places) in
+          replies .roomy (getD (pathsOf text) i []) image _ (omega (arith, lines-few image (pathsOf text) places i));
       few = λ text image places. few-in (outcome (imageOf image) (pathsOf text) places);
       list-length = λ text image list.
           let h = written-in (outcome (imageOf image) (pathsOf text) (length list)) in

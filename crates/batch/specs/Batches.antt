@@ -1,5 +1,5 @@
 -- What holds of every batch (S2.5): each answer is that of the first call. Proved in proofs/Batches.antt.
-use Prim.Native.Nat.{ℕ, suc, _+_, _-_, _≤_, _<_}
+use Prim.Native.Nat.{ℕ, suc, _+_, _-_, _*_, _≤_, _<_}
 use mathlib.Core.Path.{_≡_}
 use mathlib.Core.List.{List, [], _++_}
 use lib.ListN.{length, take, drop, getD}
@@ -30,6 +30,13 @@ pub record Batches : Type 0 where
   pub stopped :
       (text image : List ℕ) (places : ℕ) → batchOf text image places .reason ≡ 0 → batchOf text image places .count < length (pathsOf text)
       → places < length (batchOf text image places .records) + 4
+  -- A list of 4,100 places a path is never too short: every path is answered, and none by reason 9.
+  pub enough :
+      (text image : List ℕ) (places : ℕ) → 4100 * length (pathsOf text) ≤ places → batchOf text image places .reason ≡ 0
+      → batchOf text image places .count ≡ length (pathsOf text)
+  pub enough-each :
+      (text image : List ℕ) (places i : ℕ) → 4100 * length (pathsOf text) ≤ places → i < batchOf text image places .count
+      → answerOf (getD (pathsOf text) i []) image (places - length (earlier text image places i) - 4) .reason ≡ 9 → ⊥
   pub few : (text image : List ℕ) (places : ℕ) → batchOf text image places .count ≤ 64
   -- The list afterwards is as long as before.
   pub list-length : (text image list : List ℕ) → length (listAfter (batchOf text image (length list)) list) ≡ length list
