@@ -15,7 +15,7 @@ use Rattle.calls.specs.Calls.{answerIn, answerOf}
 use Rattle.calls.proofs.Few.{first-few}
 use Rattle.calls.proofs.Replies.{first-consistent, fits, counts-them, replies}
 use Rattle.batch.specs.Batch.{pathsOf, lines, answersIn, ofAnswers, batchIn, batchOf}
-use Rattle.batch.specs.Batches.{AnswerAt, Batches}
+use Rattle.batch.specs.Batches.{Batches}
 
 pub length-line : (r : Reply) → length (line r) ≡ 4 + length (r .records)
 unfolding line

@@ -4,10 +4,9 @@ use mathlib.Core.Path.{_≡_, refl, sym, ap, _∙_}
 use mathlib.Core.List.{List, [], _∷_, _++_, append-assoc, append-nil}
 use native.Mathlib.Omega.{arith}
 use native.Mathlib.Numerals.{add-one}
-use lib.ListN.{length, take, drop, set, getD, length-append, length-drop, drop-of-length-le}
-use lib.Seq.{take-at, drop-at, drop-drop, drop-cons, set-at, append-snoc}
+use lib.ListN.{length, take, drop, set, getD, length-append, length-take, length-drop, drop-of-length-le}
+use lib.Seq.{take-all, take-at, drop-at, drop-drop, drop-cons, set-at, append-snoc}
 use borrow.Rule.Slice.PartMut.{putMid}
-use Rattle.pieces.proofs.Pieces.{rest-is}
 use Rattle.listing.specs.Writing.{Written}
 
 pub written-nothing : (a : List ℕ) → Written [] a a 0
@@ -19,7 +18,7 @@ written-length {s} {a} {m = m} u h = omega (arith, u .size, ap length (u .is) �
 
 -- the rest of a buffer, as it is lent
 pub rest-length : (b : List ℕ) (m : ℕ) → length (take (length b - m) (drop m b)) ≡ length b - m
-rest-length b m = ap length (rest-is b m) ∙ length-drop m b
+rest-length b m = omega (arith, length-take (length b - m) (drop m b), length-drop m b)
 
 -- the buffer after its rest was lent
 pub rest-put : (b c : List ℕ) (m : ℕ) → putMid m (length b - m) b c ≡ take m b ++ c
@@ -36,7 +35,8 @@ written-both {s} {t} {a} {b} {c} {m} {n} u v =
     let j = v .size in
     let front : take m b ≡ s = ap (take m) (u .is) ∙ take-at s (drop m a) m (sym i) in
     let rest : drop m b ≡ drop m a = ap (drop m) (u .is) ∙ drop-at s (drop m a) m (sym i) in
-    let second : c ≡ t ++ drop (m + n) a = v .is ∙ rw (rest-is b m, rest, drop-drop n m a) in
+    let whole : take (length b - m) (drop m b) ≡ drop m b = take-all (length b - m) (drop m b) (omega (arith, length-drop m b)) in
+    let second : c ≡ t ++ drop (m + n) a = v .is ∙ rw (whole, rest, drop-drop n m a) in
     record {
       size = omega (arith, length-append s t);
       is = rest-put b c m ∙ rw (front, second) (sym (append-assoc s t (drop (m + n) a)));
