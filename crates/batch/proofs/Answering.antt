@@ -11,25 +11,23 @@ use lib.Seq.{drop-at, drop-drop}
 use Rattle.pieces.proofs.Pieces.{rest-is}
 use Rattle.path.specs.Places.{piecesFrom, part, PieceAt}
 use Rattle.path.proofs.Among.{from-start, from-end}
-use Rattle.records.specs.Record.{Record}
-use Rattle.image.specs.Image.{Image, sound, imageOf}
-use Rattle.image.specs.Part.{recordsOf}
+use Rattle.image.specs.Image.{Image, imageOf}
 use Rattle.image.specs.Place.{verdictOf}
-use Rattle.image.specs.declared.Verdict.the-variants.{Sound, Defective}
+use Rattle.image.specs.declared.Verdict.the-variants.{Sound}
 use Rattle.image.proofs.Soundness.{is-sound}
 use Rattle.listing.specs.Writing.{Written}
 use Rattle.listing.proofs.Writing.{written-nothing, written-length, rest-length, rest-put, written-both}
 use Rattle.query.specs.declared.Kind.the-variants as Kind
 use Rattle.answers.specs.declared.Answer.{Answer}
-use Rattle.answers.specs.Reply.{Reply, ofReason, refusal, ofDefect, line, listAfter}
+use Rattle.answers.specs.Reply.{Reply, ofReason, refusal, line, listAfter}
 use Rattle.answers.specs.Answered.{replyOf, Answered}
 use Rattle.answers.specs.Reporting.{reportedOf}
 use Rattle.answers.proofs.Replying.{refused-is}
 use Rattle.calls.specs.Calls.{answerIn}
 use Rattle.calls.specs.Replies.{Consistent}
-use Rattle.calls.proofs.Asking.{is-defective}
+use Rattle.calls.proofs.Asking.{on-sound}
 use Rattle.calls.proofs.Replies.{first-consistent, reported-all}
-use Rattle.batch.specs.Batch.{pathsOf, lines, answersIn, ofAnswers, batchIn, batchOf}
+use Rattle.batch.specs.Batch.{pathsOf, lines, answersIn, ofAnswers, batchIn}
 use Rattle.batch.specs.Answering.{Answering}
 use Rattle.batch.proofs.Batches.{length-line, stop, no-paths, onward, line-fits, few-answers}
 
@@ -155,37 +153,21 @@ module _ {image : Image} {text before list : List ℕ} {answered start at : ℕ}
           counted = rw e (omega arith);
         }
 
--- The call, by the verdict on the image and the number of paths
+-- The call on a sound image, by the number of paths
 
 pub many-paths :
     (paths : List (List ℕ)) (image list : List ℕ) (count : ℕ) {r : Answer} → 64 < length paths → verdictOf (imageOf image) ≡ Sound count
     → replyOf r [] ≡ ofReason 10 Kind.None 0 [] → Answered (batchIn paths (imageOf image) (length list)) r list list
 unfolding batchIn refusal ofReason
-many-paths paths image list count {r} h v e =
-    subst (λ (x : Image). Answered (batchIn paths x (length list)) r list list) (sym (is-sound (imageOf image) count v))
-    (rw (lt-ltb 64 (length paths) h) (refused-is refl e))
-
-answered-is :
-    (paths : List (List ℕ)) (records : List Record) (list : List ℕ) {r : Answer} {after : List ℕ} {n : ℕ} → length paths ≤ 64
-    → Answering (answersIn (sound records) paths (length list)) list after n → ((written : List ℕ) → replyOf r written ≡ ofReason 0 Kind.None n written)
-    → Answered (batchIn paths (sound records) (length list)) r list after
-unfolding batchIn ofAnswers ofReason listAfter
-answered-is paths records list h w k = rw (le-ltb 64 (length paths) h) (record { numbers = k _ ∙ rw (w .count); list = w .list })
+many-paths paths image list count h v e =
+    on-sound (λ (i : Image). batchIn paths i (length list)) (imageOf image) v (rw (lt-ltb 64 (length paths) h) (refused-is refl e))
 
 pub paths-answered :
     (paths : List (List ℕ)) (image list : List ℕ) (count : ℕ) {r : Answer} {after : List ℕ} {n : ℕ} → length paths ≤ 64 → verdictOf (imageOf image) ≡ Sound count
     → Answering (answersIn (imageOf image) paths (length list)) list after n → ((records : List ℕ) → replyOf r records ≡ ofReason 0 Kind.None n records)
     → Answered (batchIn paths (imageOf image) (length list)) r list after
-paths-answered paths image list count {r} {after} {n} h v w k =
-    subst (λ (x : Image). Answered (batchIn paths x (length list)) r list after) (sym e)
-    (answered-is paths (recordsOf (imageOf image)) list h (subst (λ (x : Image). Answering (answersIn x paths (length list)) list after n) e w) k)
-  where
-    e : imageOf image ≡ sound (recordsOf (imageOf image))
-    e = is-sound (imageOf image) count v
-
-pub defect-batch :
-    (text image list : List ℕ) (defect place : ℕ) {r : Answer} → verdictOf (imageOf image) ≡ Defective defect place
-    → replyOf r [] ≡ ofDefect defect place → Answered (batchOf text image (length list)) r list list
-unfolding batchOf batchIn ofDefect
-defect-batch text image list defect place {r} v e =
-    subst (λ (x : Image). Answered (batchIn (pathsOf text) x (length list)) r list list) (sym (is-defective (imageOf image) defect place v)) (refused-is refl e)
+unfolding batchIn ofAnswers ofReason listAfter
+paths-answered paths image list count {after = after} {n} h v w k =
+    let s = subst (λ (i : Image). Answering (answersIn i paths (length list)) list after n) (is-sound (imageOf image) count v) w in
+    on-sound (λ (i : Image). batchIn paths i (length list)) (imageOf image) v
+    (rw (le-ltb 64 (length paths) h) (record { numbers = k _ ∙ rw (s .count); list = s .list }))
