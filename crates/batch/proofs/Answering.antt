@@ -76,7 +76,6 @@ line-in-rest path image list ys at n l =
 -- All answers: what is written, and what follows for the paths that are left, are the whole
 
 pub record SoFar (image : Image) (text before list : List ℕ) (answered start at : ℕ) : Type 0 where
-  pub inside : start ≤ length text + 1
   pub written : List ℕ
   pub front : Written written before list at
   pub room : at ≤ length before
@@ -88,7 +87,6 @@ unfolding pathsOf
 nothing-yet image text list =
     let z : length list - 0 ≡ length list = omega arith in
     record {
-      inside = omega arith;
       written = [];
       front = written-nothing list;
       room = omega arith;
@@ -142,7 +140,6 @@ module _ {image : Image} {text before list : List ℕ} {answered start at : ℕ}
         let q = s .counted in
         let p = ap length still in
         record {
-          inside = omega (arith, piece .fits);
           written = s .written ++ line next;
           front = written-both (s .front) l;
           room = omega (arith, l .size, kept-length);

@@ -12,8 +12,7 @@ use lib.Seq.{take-length}
 use Rattle.image.specs.Image.{Image, sound, defective, imageOf}
 use Rattle.answers.specs.Reply.{Reply, ofReason, refusal, ofDefect, line, listAfter}
 use Rattle.calls.specs.Calls.{answerIn, answerOf}
-use Rattle.calls.proofs.Few.{first-few}
-use Rattle.calls.proofs.Replies.{first-consistent, fits, counts-them, replies}
+use Rattle.calls.proofs.Replies.{first-consistent, first-few, fits, counts-them, replies}
 use Rattle.batch.specs.Batch.{pathsOf, lines, answersIn, ofAnswers, batchIn, batchOf}
 use Rattle.batch.specs.Batches.{Batches}
 

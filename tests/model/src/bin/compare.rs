@@ -189,16 +189,7 @@ impl Run {
         let mut expected: Vec<u32> = (0..places).map(pattern).collect();
         let wanted = model::answer_checked(path, image, checked, &mut expected);
 
-        self.trace(number, ANSWER, &format!("{}", path.escape_ascii()));
-        self.prepare(rng, path, places);
-        subject::answer(
-            self.path.contents(),
-            self.image.contents(),
-            self.list.contents_mut(),
-            as_reply(&mut self.reply),
-        );
-        let unchanged = self.path.contents() == path && self.path.is_intact();
-        self.judge(number, ANSWER, path, 0, image, wanted, &expected, unchanged);
+        self.on_text(number, rng, ANSWER, path, image, wanted, &expected);
     }
 
     fn batch(&mut self, number: u64, rng: &mut Rng, aims: &Aims, image: &[u8], checked: &Checked) {
@@ -217,16 +208,38 @@ impl Run {
             self.answers[reason as usize] += 1;
         }
 
-        self.trace(number, BATCH, &format!("{}", text.escape_ascii()));
-        self.prepare(rng, &text, expected.len());
-        subject::batch(
+        self.on_text(number, rng, BATCH, &text, image, wanted, &expected);
+    }
+
+    /// Makes a call that takes a path or a text of paths.
+    #[allow(clippy::too_many_arguments)]
+    fn on_text(
+        &mut self,
+        number: u64,
+        rng: &mut Rng,
+        function: usize,
+        text: &[u8],
+        image: &[u8],
+        wanted: model::Reply,
+        expected: &[u32],
+    ) {
+        self.trace(number, function, &format!("{}", text.escape_ascii()));
+        self.prepare(rng, text, expected.len());
+        let call = if function == BATCH {
+            subject::batch
+        } else {
+            subject::answer
+        };
+        call(
             self.path.contents(),
             self.image.contents(),
             self.list.contents_mut(),
             as_reply(&mut self.reply),
         );
         let unchanged = self.path.contents() == text && self.path.is_intact();
-        self.judge(number, BATCH, &text, 0, image, wanted, &expected, unchanged);
+        self.judge(
+            number, function, text, 0, image, wanted, expected, unchanged,
+        );
     }
 
     fn relation(
