@@ -1,25 +1,39 @@
 //! Nanoseconds a call of the library beside those of the model's fast Rust, in
 //! the same run and by turns; each figure is the least of many repetitions.
 //!
-//!     bench [--shape NAME] [--kind TEXT] [--repetitions N] [--seconds T] [--table]
+//!     bench [--shape NAME] [--kind TEXT] [--repetitions N] [--seconds T]
+//!           [--table | --over-check]
 //!
 //! N repetitions (40) of every row, fewer if T seconds (100) are over before.
 //! Every call checks the image. The row `check` is the path `/help`, which does
 //! nothing else; the rows `batch` are 64 lookups in one call. Growth is the time
 //! for 4,096 records over that for 2,048.
 //! `--table` prints the figures for 4,096 records as a table of Markdown.
+//! `--over-check` measures the lookups by name and by handle on 4,096 records, and
+//! beside each the check alone, in place of the Rust.
 
-use model::generate::Draft;
+use model::generate::{Draft, Rng};
 use model::{
     fast, generate, subject, Part, Range, Record, Relation, AS, DOMAIN, ENTITY, IPV4, IPV6,
     MOST_PATHS, MOST_RECORDS, NAMESERVER,
 };
+use std::collections::BTreeSet;
 use std::hint::black_box;
 use std::net::{Ipv4Addr, Ipv6Addr};
 use std::time::Instant;
 
 const SIZES: [usize; 5] = [256, 512, 1024, 2048, 4096];
 const SHAPES: [&str; 4] = ["mixed", "flat", "chain", "long"];
+
+/// Shapes of one tag, measured over the check or when named.
+const SORTED: [&str; 2] = ["entities", "domains"];
+
+/// The tags that are looked up by a text in which they are sorted.
+const BY_TEXT: [(&str, u8); 3] = [
+    ("domain", DOMAIN),
+    ("nameserver", NAMESERVER),
+    ("entity", ENTITY),
+];
 
 /// Places of the list: enough for every answer, and for 64 lookups in a batch.
 const PLACES: usize = MOST_RECORDS;
@@ -66,67 +80,133 @@ fn tree(count: usize, bits: u32) -> Vec<Range> {
     ranges
 }
 
-fn image(shape: &str, count: usize) -> Vec<u8> {
-    let mut drafts = Vec::new();
-    match shape {
-        // a sixth of each tag, blocks in trees
-        "mixed" => {
-            for tag in IPV4..=ENTITY {
-                let count = count / 6 + usize::from(usize::from(tag - IPV4) < count % 6);
-                let blocks = |bits, start: &str| {
-                    tree(count, bits)
-                        .into_iter()
-                        .enumerate()
-                        .map(|(number, range)| block(tag, start, number, range))
-                        .collect::<Vec<_>>()
-                };
-                match tag {
-                    IPV4 => drafts.extend(blocks(32, "NET")),
-                    IPV6 => drafts.extend(blocks(128, "NET6")),
-                    AS => drafts.extend(blocks(32, "AS")),
-                    _ => drafts.extend((0..count).map(|number| {
-                        let handle = handle("OBJ", number);
-                        match tag {
-                            DOMAIN => {
-                                let name = format!("d{number:04}.example.com");
-                                Draft::other(tag, &handle, name.as_bytes())
-                            }
-                            NAMESERVER => {
-                                let name = format!("d{number:04}.ns.example.com");
-                                Draft::other(tag, &handle, name.as_bytes())
-                            }
-                            _ => Draft::other(tag, &handle, &name(number)),
-                        }
-                    })),
-                }
-            }
+/// A sixth of each tag, blocks in trees.
+fn mixed(count: usize) -> Vec<Draft> {
+    let of_tag = |tag: u8| {
+        let count = count / 6 + usize::from(usize::from(tag - IPV4) < count % 6);
+        match tag {
+            IPV4 => blocks(tag, "NET", tree(count, 32)),
+            IPV6 => blocks(tag, "NET6", tree(count, 128)),
+            AS => blocks(tag, "AS", tree(count, 32)),
+            _ => others(tag, count),
         }
-        // IPv4 blocks side by side
-        "flat" => drafts.extend((0..count).map(|number| {
-            let first = (number as u128) << 8;
-            let last = first + 255;
-            block(IPV4, "NET", number, Range { first, last })
-        })),
-        // IPv4 blocks, each in the one before
-        "chain" => drafts.extend((0..count).map(|number| {
-            let first = number as u128;
-            let last = u128::from(u32::MAX) - number as u128;
-            block(IPV4, "NET", number, Range { first, last })
-        })),
-        // domains and entities with names of 46 bytes
-        "long" => {
-            let half = count / 2;
-            drafts.extend((0..half).map(|number| {
-                let name = format!("a-rather-long-label-{number:04}.in.a.zone.example.com");
-                Draft::other(DOMAIN, &handle("DOM", number), name.as_bytes())
-            }));
-            drafts.extend((half..count).map(|number| {
-                let name = format!("Department of Records and Registries, No. {number:04}");
-                Draft::other(ENTITY, &handle("ENT", number), name.as_bytes())
-            }));
-        }
-        _ => unreachable!(),
+    };
+    (IPV4..=ENTITY).flat_map(of_tag).collect()
+}
+
+fn blocks(tag: u8, start: &str, ranges: Vec<Range>) -> Vec<Draft> {
+    let numbered = ranges.into_iter().enumerate();
+    numbered
+        .map(|(number, range)| block(tag, start, number, range))
+        .collect()
+}
+
+fn others(tag: u8, count: usize) -> Vec<Draft> {
+    let name = |number| match tag {
+        DOMAIN => format!("d{number:04}.example.com").into_bytes(),
+        NAMESERVER => format!("d{number:04}.ns.example.com").into_bytes(),
+        _ => name(number),
+    };
+    (0..count)
+        .map(|number| Draft::other(tag, &handle("OBJ", number), &name(number)))
+        .collect()
+}
+
+/// IPv4 blocks side by side.
+fn flat(count: usize) -> Vec<Draft> {
+    let range = |number: usize| {
+        let first = (number as u128) << 8;
+        let last = first + 255;
+        Range { first, last }
+    };
+    blocks(IPV4, "NET", (0..count).map(range).collect())
+}
+
+/// IPv4 blocks, each in the one before.
+fn chain(count: usize) -> Vec<Draft> {
+    let range = |number: usize| {
+        let first = number as u128;
+        let last = u128::from(u32::MAX) - number as u128;
+        Range { first, last }
+    };
+    blocks(IPV4, "NET", (0..count).map(range).collect())
+}
+
+/// Domains and entities with names of 46 bytes.
+fn long(count: usize) -> Vec<Draft> {
+    let half = count / 2;
+    let domain = |number| {
+        let name = format!("a-rather-long-label-{number:04}.in.a.zone.example.com");
+        Draft::other(DOMAIN, &handle("DOM", number), name.as_bytes())
+    };
+    let entity = |number| {
+        let name = format!("Department of Records and Registries, No. {number:04}");
+        Draft::other(ENTITY, &handle("ENT", number), name.as_bytes())
+    };
+    let domains = (0..half).map(domain);
+    domains.chain((half..count).map(entity)).collect()
+}
+
+/// So many different texts, sorted.
+fn sorted(count: usize, draw: impl Fn(&mut Rng) -> String) -> BTreeSet<String> {
+    let mut rng = Rng::new(1);
+    let mut texts = BTreeSet::new();
+    while texts.len() < count {
+        texts.insert(draw(&mut rng));
     }
+    texts
+}
+
+/// From `low` to `high` letters of the alphabet that starts with `first`.
+fn letters(rng: &mut Rng, low: usize, high: usize, first: u8) -> String {
+    (0..rng.between(low, high))
+        .map(|_| char::from(first + rng.below(26) as u8))
+        .collect()
+}
+
+/// Entities with handles of 4 to 12 bytes: initials, a number, sometimes a
+/// suffix.
+fn entities(count: usize) -> Vec<Draft> {
+    let handles = sorted(count, |rng| {
+        let initials = letters(rng, 2, 4, b'A');
+        let digits = rng.between(2, 5);
+        let number = rng.below(10_usize.pow(digits as u32));
+        let suffix = rng.pick(&["", "-EX"]);
+        format!("{initials}{number:0digits$}{suffix}")
+    });
+    let numbered = handles.iter().enumerate();
+    numbered
+        .map(|(number, handle)| Draft::other(ENTITY, handle.as_bytes(), &name(number)))
+        .collect()
+}
+
+/// Domains with names of 15 to 32 bytes in four zones.
+fn domains(count: usize) -> Vec<Draft> {
+    let zones = [
+        "example.com",
+        "example.edu",
+        "lib.example.edu",
+        "physics.example.edu",
+    ];
+    let names = sorted(count, |rng| {
+        format!("{}.{}", letters(rng, 3, 12, b'a'), rng.pick(&zones))
+    });
+    let numbered = names.iter().enumerate();
+    numbered
+        .map(|(number, name)| Draft::other(DOMAIN, &handle("DOM", number), name.as_bytes()))
+        .collect()
+}
+
+fn image(shape: &str, count: usize) -> Vec<u8> {
+    let drafts = match shape {
+        "mixed" => mixed(count),
+        "flat" => flat(count),
+        "chain" => chain(count),
+        "long" => long(count),
+        "entities" => entities(count),
+        "domains" => domains(count),
+        _ => unreachable!(),
+    };
     assert_eq!(drafts.len(), count);
     generate::encode(&drafts)
 }
@@ -190,6 +270,11 @@ struct Registry<'a> {
 }
 
 impl Registry<'_> {
+    fn new(image: &[u8]) -> Registry<'_> {
+        let records = model::check(image).expect("a sound image");
+        Registry { image, records }
+    }
+
     fn of_tag(&self, tag: u8) -> Vec<&Record> {
         let records = self.records.iter();
         records.filter(|record| record.tag == tag).collect()
@@ -235,91 +320,119 @@ impl Registry<'_> {
     }
 }
 
+fn lookups(registry: &Registry) -> Vec<(&'static str, String)> {
+    let key_of = |tag| registry.key(tag, registry.last(tag));
+    vec![
+        ("check", "/help".into()),
+        ("ip v4", format!("/ip/{}", key_of(IPV4))),
+        ("ip v6", format!("/ip/{}", key_of(IPV6))),
+        ("autnum", format!("/autnum/{}", key_of(AS))),
+        ("domain", format!("/domain/{}", key_of(DOMAIN))),
+        ("nameserver", format!("/nameserver/{}", key_of(NAMESERVER))),
+        ("entity", format!("/entity/{}", key_of(ENTITY))),
+    ]
+}
+
+fn searches(registry: &Registry) -> Vec<(&'static str, String)> {
+    // A pattern that matches the last sixteen or so.
+    let most = |text: String| format!("{}*", &text[..text.len() - 2]);
+    let handles = |tag| most(registry.handle(registry.last(tag)));
+    let names = |tag| most(registry.name(registry.last(tag)));
+    let search = |start: &str, pattern: String| format!("/{start}={pattern}");
+    vec![
+        ("domains name", search("domains?name", names(DOMAIN))),
+        ("domains suffix", "/domains?name=*.example.com".into()),
+        (
+            "nameservers name",
+            search("nameservers?name", names(NAMESERVER)),
+        ),
+        ("entities fn", search("entities?fn", names(ENTITY))),
+        (
+            "entities handle",
+            search("entities?handle", handles(ENTITY)),
+        ),
+        ("ips handle", search("ips?handle", handles(IPV4))),
+        ("ips name", search("ips?name", names(IPV4))),
+        ("ips name all", "/ips?name=*".into()),
+        ("autnums handle", search("autnums?handle", handles(AS))),
+        ("autnums name", search("autnums?name", names(AS))),
+    ]
+}
+
+fn relations(registry: &Registry) -> Vec<(&'static str, String)> {
+    let key_of = |tag| registry.key(tag, registry.last(tag));
+    let (v4, v6, autnum) = (key_of(IPV4), key_of(IPV6), key_of(AS));
+    let ips = |end: &str| format!("/ips/rirSearch1/{end}");
+    let autnums = |end: &str| format!("/autnums/rirSearch1/{end}");
+    vec![
+        ("up v4", ips(&format!("up/{v4}"))),
+        ("top v4", ips(&format!("top/{v4}"))),
+        ("down v4", ips("down/0.0.0.0/0")),
+        ("bottom v4", ips("bottom/0.0.0.0/0")),
+        ("up v6", ips(&format!("up/{v6}"))),
+        ("down v6", ips("down/::/0")),
+        ("bottom v6", ips("bottom/::/0")),
+        ("up as", autnums(&format!("up/{autnum}"))),
+        ("down as", autnums("down/0-4294967295")),
+        ("bottom as", autnums("bottom/0-4294967295")),
+    ]
+}
+
+/// Lookups by text that take a search by halves all its steps: of the first
+/// record, and of a text between it and the second. (Where the upper half is the
+/// larger one, the last record takes them all.)
+fn steps(registry: &Registry) -> Vec<(String, Call)> {
+    let ends = [("first", ""), ("none", "x")];
+    let of_tag = |(kind, tag): (&'static str, u8)| {
+        let key = registry.key(tag, registry.of_tag(tag).first().copied());
+        ends.map(|(end, more)| {
+            let path = format!("/{kind}/{key}{more}");
+            (format!("{kind} {end}"), Call::Answer(path.into_bytes()))
+        })
+    };
+    let tags = BY_TEXT.into_iter();
+    tags.filter(|(_, tag)| registry.last(*tag).is_some())
+        .flat_map(of_tag)
+        .collect()
+}
+
 /// The calls measured on an image. Where the image has such records, lookups
 /// and searches find something, and what they find lies at the end; a batch
 /// finds records from the first to the last.
-fn calls(image: &[u8]) -> Vec<(String, Call)> {
-    let records = model::check(image).expect("a sound image");
-    let registry = Registry { image, records };
-    let key_of = |tag| registry.key(tag, registry.last(tag));
-    let handle_of = |tag| registry.handle(registry.last(tag));
-    let name_of = |tag| registry.name(registry.last(tag));
-    // A pattern that matches the last sixteen or so.
-    let most = |text: String| format!("{}*", &text[..text.len() - 2]);
-    let (v4, v6, autnum) = (key_of(IPV4), key_of(IPV6), key_of(AS));
+fn calls(registry: &Registry) -> Vec<(String, Call)> {
+    let paths = [lookups(registry), searches(registry), relations(registry)].concat();
     let last_block = registry.of_tag(IPV4).len().saturating_sub(1) as u32;
     let last = registry.records.len() as u32 - 1;
-
-    let mut calls: Vec<(String, Call)> = Vec::new();
-    let mut path = |kind: &str, path: String| {
-        calls.push((kind.into(), Call::Answer(path.into_bytes())));
-    };
-    path("check", "/help".into());
-    path("ip v4", format!("/ip/{v4}"));
-    path("ip v6", format!("/ip/{v6}"));
-    path("autnum", format!("/autnum/{autnum}"));
-    path("domain", format!("/domain/{}", key_of(DOMAIN)));
-    path("nameserver", format!("/nameserver/{}", key_of(NAMESERVER)));
-    path("entity", format!("/entity/{}", key_of(ENTITY)));
-    let pattern = most(name_of(DOMAIN));
-    path("domains name", format!("/domains?name={pattern}"));
-    path("domains suffix", "/domains?name=*.example.com".into());
-    let pattern = most(name_of(NAMESERVER));
-    path("nameservers name", format!("/nameservers?name={pattern}"));
-    let pattern = most(name_of(ENTITY));
-    path("entities fn", format!("/entities?fn={pattern}"));
-    let pattern = most(handle_of(ENTITY));
-    path("entities handle", format!("/entities?handle={pattern}"));
-    let pattern = most(handle_of(IPV4));
-    path("ips handle", format!("/ips?handle={pattern}"));
-    let pattern = most(name_of(IPV4));
-    path("ips name", format!("/ips?name={pattern}"));
-    path("ips name all", "/ips?name=*".into());
-    let pattern = most(handle_of(AS));
-    path("autnums handle", format!("/autnums?handle={pattern}"));
-    let pattern = most(name_of(AS));
-    path("autnums name", format!("/autnums?name={pattern}"));
-    path("up v4", format!("/ips/rirSearch1/up/{v4}"));
-    path("top v4", format!("/ips/rirSearch1/top/{v4}"));
-    path("down v4", "/ips/rirSearch1/down/0.0.0.0/0".into());
-    path("bottom v4", "/ips/rirSearch1/bottom/0.0.0.0/0".into());
-    path("up v6", format!("/ips/rirSearch1/up/{v6}"));
-    path("down v6", "/ips/rirSearch1/down/::/0".into());
-    path("bottom v6", "/ips/rirSearch1/bottom/::/0".into());
-    path("up as", format!("/autnums/rirSearch1/up/{autnum}"));
-    path("down as", "/autnums/rirSearch1/down/0-4294967295".into());
-    path(
-        "bottom as",
-        "/autnums/rirSearch1/bottom/0-4294967295".into(),
-    );
-    for (kind, relation, record) in [
-        ("third up", Relation::Up, last_block),
-        ("third top", Relation::Top, last_block),
-        ("third down", Relation::Down, 0),
-        ("third bottom", Relation::Bottom, 0),
-    ] {
-        calls.push((kind.into(), Call::Related(relation, record)));
-    }
-    calls.push(("handle".into(), Call::Handle(last)));
-    calls.push(("name".into(), Call::Name(last)));
-    for (kind, start, tag) in [
-        ("batch ip v4", "/ip/", IPV4),
-        ("batch ip v6", "/ip/", IPV6),
-        ("batch domain", "/domain/", DOMAIN),
-        ("batch entity", "/entity/", ENTITY),
-    ] {
-        calls.push((kind.into(), registry.batch(start, tag)));
-    }
-    calls
+    let others = [
+        ("third up", Call::Related(Relation::Up, last_block)),
+        ("third top", Call::Related(Relation::Top, last_block)),
+        ("third down", Call::Related(Relation::Down, 0)),
+        ("third bottom", Call::Related(Relation::Bottom, 0)),
+        ("handle", Call::Handle(last)),
+        ("name", Call::Name(last)),
+        ("batch ip v4", registry.batch("/ip/", IPV4)),
+        ("batch ip v6", registry.batch("/ip/", IPV6)),
+        ("batch domain", registry.batch("/domain/", DOMAIN)),
+        ("batch entity", registry.batch("/entity/", ENTITY)),
+    ];
+    let paths = paths
+        .into_iter()
+        .map(|(kind, path)| (kind, Call::Answer(path.into_bytes())));
+    paths
+        .chain(others)
+        .map(|(kind, call)| (kind.into(), call))
+        .collect()
 }
 
 // Measuring
 
-/// One call on one image, and the least time it took so far in `fast` and in
-/// the library.
+/// One call on one image, and the least time so far of what it is measured
+/// beside and of the call in the library.
 struct Cell<'a> {
     image: &'a [u8],
     call: Call,
+    /// Another call of the library; the same call in `fast` if there is none.
+    beside: Option<Call>,
     least: (f64, f64),
 }
 
@@ -332,7 +445,10 @@ impl Cell<'_> {
     /// load spoils no cell for good.
     fn measure(&mut self, list: &mut [u32]) {
         let (image, call) = (black_box(self.image), black_box(&self.call));
-        let took = turn(self.least.0, || call.fast(image, list));
+        let took = turn(self.least.0, || match &self.beside {
+            None => call.fast(image, list),
+            Some(other) => other.subject(image, list),
+        });
         self.least.0 = self.least.0.min(took);
         let took = turn(self.least.1, || call.subject(image, list));
         self.least.1 = self.least.1.min(took);
@@ -350,13 +466,21 @@ fn turn(expected: f64, mut call: impl FnMut() -> u32) -> f64 {
     start.elapsed().as_nanos() as f64 / f64::from(times)
 }
 
+/// What is printed.
+#[derive(PartialEq)]
+enum Print {
+    Rows,
+    Table,
+    OverCheck,
+}
+
 /// What the words on the command line ask for.
 struct Options {
     shape: Option<String>,
     kind: Option<String>,
     repetitions: u32,
     seconds: u64,
-    table: bool,
+    print: Print,
 }
 
 impl Options {
@@ -366,7 +490,7 @@ impl Options {
             kind: None,
             repetitions: 40,
             seconds: 100,
-            table: false,
+            print: Print::Rows,
         };
         let mut words = std::env::args().skip(1);
         while let Some(word) = words.next() {
@@ -380,11 +504,51 @@ impl Options {
                 "--kind" => options.kind = Some(value()),
                 "--repetitions" => options.repetitions = value().parse().expect("a number"),
                 "--seconds" => options.seconds = value().parse().expect("a number"),
-                "--table" => options.table = true,
+                "--table" => options.print = Print::Table,
+                "--over-check" => options.print = Print::OverCheck,
                 _ => panic!("{word}: no such option"),
             }
         }
         options
+    }
+
+    fn over_check(&self) -> bool {
+        self.print == Print::OverCheck
+    }
+
+    /// The images that are asked for, by shape.
+    fn shapes(&self) -> Vec<(&'static str, Vec<Vec<u8>>)> {
+        let asked = |name: &&str| match &self.shape {
+            Some(shape) => shape == name,
+            None => self.over_check() || SHAPES.contains(name),
+        };
+        let sizes = if self.over_check() {
+            &SIZES[4..]
+        } else {
+            &SIZES
+        };
+        let images = |name| sizes.iter().map(|&size| image(name, size)).collect();
+        let shapes: Vec<_> = SHAPES.into_iter().chain(SORTED).filter(asked).collect();
+        assert!(!shapes.is_empty(), "no such shape");
+        shapes
+            .into_iter()
+            .map(|name| (name, images(name)))
+            .collect()
+    }
+
+    /// The calls that are asked for.
+    fn calls(&self, registry: &Registry) -> Vec<(String, Call)> {
+        let mut calls = calls(registry);
+        if self.print != Print::Table {
+            calls.extend(steps(registry));
+        }
+        if self.over_check() {
+            let by_text = |name: &str| BY_TEXT.iter().any(|(kind, _)| *kind == name);
+            calls.retain(|(name, _)| name.split(' ').next().is_some_and(by_text));
+            calls.sort_by(|one, other| one.0.cmp(&other.0));
+        }
+        calls.retain(|(name, _)| self.kind.as_ref().is_none_or(|kind| name.contains(kind)));
+        calls
     }
 }
 
@@ -402,21 +566,20 @@ fn assert_same(name: &str, call: &Call, image: &[u8]) {
     assert!(fast == library, "{name}: the lists differ");
 }
 
-fn rows<'a>(images: &'a [Vec<u8>], kind: &Option<String>) -> Rows<'a> {
+fn rows<'a>(images: &'a [Vec<u8>], options: &Options) -> Rows<'a> {
     let mut rows: Rows = Vec::new();
     for image in images {
-        for (at, (name, call)) in calls(image)
-            .into_iter()
-            .filter(|(name, _)| kind.as_ref().is_none_or(|kind| name.contains(kind)))
-            .enumerate()
-        {
+        let calls = options.calls(&Registry::new(image));
+        for (at, (name, call)) in calls.into_iter().enumerate() {
             assert_same(&name, &call, image);
             if rows.len() == at {
                 rows.push((name, Vec::new()));
             }
+            let check = || Call::Answer(b"/help".to_vec());
             rows[at].1.push(Cell {
                 image,
                 call,
+                beside: options.over_check().then(check),
                 least: (f64::INFINITY, f64::INFINITY),
             });
         }
@@ -474,43 +637,37 @@ fn print_table(shapes: &[(&str, Vec<Vec<u8>>)], tables: &[Rows]) {
     println!();
 }
 
-fn main() {
-    let options = Options::read();
-    let mut list = vec![0; PLACES];
-    let shapes: Vec<(&str, Vec<Vec<u8>>)> = SHAPES
-        .into_iter()
-        .filter(|name| options.shape.as_ref().is_none_or(|shape| shape == name))
-        .map(|name| (name, SIZES.map(|size| image(name, size)).to_vec()))
-        .collect();
-    let mut tables: Vec<Rows> = shapes
-        .iter()
-        .map(|(_, images)| rows(images, &options.kind))
-        .collect();
-    let start = Instant::now();
-    let mut done = 0;
-    while done < options.repetitions && (done == 0 || start.elapsed().as_secs() < options.seconds) {
-        done += 1;
-        for cell in tables.iter_mut().flatten().flat_map(|(_, cells)| cells) {
-            cell.measure(&mut list);
+fn print_over_check(shapes: &[(&str, Vec<Vec<u8>>)], tables: &[Rows]) {
+    for ((shape, images), rows) in shapes.iter().zip(tables) {
+        println!("{shape}: bytes {}", images[0].len());
+        println!("{:16} {:>8} {:>8}  row/check", "us a call", "check", "row");
+        for (kind, cells) in rows {
+            let (check, row) = cells[0].least;
+            let ratio = cells[0].ratio();
+            println!(
+                "{kind:16} {:8.2} {:8.2} {ratio:10.3}",
+                check / 1e3,
+                row / 1e3
+            );
         }
+        println!();
     }
-    if options.table {
-        print_table(&shapes, &tables);
-    } else {
-        for ((shape, images), rows) in shapes.iter().zip(&tables) {
-            print_rows(shape, images, rows);
-        }
-    }
-    println!("{done} repetitions");
-    let full: Vec<&[Cell]> = tables
+    let cells = tables.iter().flatten().flat_map(|(_, cells)| cells);
+    let most = cells.map(Cell::ratio).fold(0.0, f64::max);
+    println!("at 4,096 records: largest row/check {most:.3}");
+}
+
+/// The largest figures of the run.
+fn print_summary(tables: &[Rows]) {
+    let rows: Vec<&[Cell]> = tables
         .iter()
         .flatten()
         .map(|(_, cells)| &cells[..])
         .collect();
     let most =
-        |figure: fn(&[Cell]) -> f64| full.iter().map(|cells| figure(cells)).fold(0.0, f64::max);
+        |figure: fn(&[Cell]) -> f64| rows.iter().map(|cells| figure(cells)).fold(0.0, f64::max);
     let at_most = |limit: f64| {
-        full.iter()
+        rows.iter()
             .filter(|cells| cells[4].ratio() <= limit)
             .count()
     };
@@ -518,11 +675,54 @@ fn main() {
         "at 4,096 records: largest library/fast {:.2}, at most 1.5 in {} of {} cells",
         most(|cells| cells[4].ratio()),
         at_most(1.5),
-        full.len()
+        rows.len()
     );
     println!(
         "at any size: largest library/fast {:.2}; largest growth {:.2}",
         most(|cells| cells.iter().map(Cell::ratio).fold(0.0, f64::max)),
         most(|cells| cells[4].least.1 / cells[3].least.1)
     );
+}
+
+/// Measures every cell as often as asked for; how often that was.
+fn measure(tables: &mut [Rows], options: &Options) -> u32 {
+    // Over the check, each repetition stays with an image for some rounds: the
+    // first turns on one are slower, until the processor foresees its branches.
+    let rounds = if options.over_check() { 10 } else { 1 };
+    let mut list = vec![0; PLACES];
+    let start = Instant::now();
+    let mut done = 0;
+    while done < options.repetitions && (done == 0 || start.elapsed().as_secs() < options.seconds) {
+        done += 1;
+        for rows in tables.iter_mut() {
+            for _ in 0..rounds {
+                let cells = rows.iter_mut().flat_map(|(_, cells)| cells);
+                cells.for_each(|cell| cell.measure(&mut list));
+            }
+        }
+    }
+    done
+}
+
+fn main() {
+    let options = Options::read();
+    let shapes = options.shapes();
+    let mut tables: Vec<Rows> = shapes
+        .iter()
+        .map(|(_, images)| rows(images, &options))
+        .collect();
+    let done = measure(&mut tables, &options);
+    match options.print {
+        Print::OverCheck => print_over_check(&shapes, &tables),
+        Print::Table => print_table(&shapes, &tables),
+        Print::Rows => {
+            for ((shape, images), rows) in shapes.iter().zip(&tables) {
+                print_rows(shape, images, rows);
+            }
+        }
+    }
+    println!("{done} repetitions");
+    if !options.over_check() {
+        print_summary(&tables);
+    }
 }

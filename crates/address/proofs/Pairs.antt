@@ -10,7 +10,7 @@ use lib.ListN.{length, getD}
 use Rattle.address.specs.Number.{valueFrom, atMost, Digits, Bytes, order}
 use Rattle.address.specs.Words.{low4Of, swap4Of}
 use Rattle.address.specs.Positions.{numberIn}
-use Rattle.address.proofs.Compare as step
+use Rattle.address.proofs.Comparing as step
 use Rattle.address.proofs.Digits.{four-bytes}
 
 -- each digit taken out again
@@ -67,7 +67,7 @@ module _ (base : ℕ) where
     high-above k = sym (step.above (h ∷ l ∷ []) (g ∷ m ∷ []) 0 (omega arith) (omega arith) k) ∙ compared
 
     pub high-same : h ≤ g → g ≤ h → leb l m ≡ leb (valueFrom base 0 (h ∷ l ∷ [])) (valueFrom base 0 (g ∷ m ∷ []))
-    high-same k j = sym low ∙ sym (step.equal (h ∷ l ∷ []) (g ∷ m ∷ []) 0 (omega arith) (omega arith) k j) ∙ compared
+    high-same k j = sym low ∙ sym (step.onward (h ∷ l ∷ []) (g ∷ m ∷ []) 0 (omega arith) (omega arith) k j) ∙ compared
       where
         low : atMost (l ∷ []) (m ∷ []) ≡ leb l m
         low = order base (l ∷ []) (m ∷ []) refl (one l q) (one m s) ∙ rw (last-is l, last-is m)

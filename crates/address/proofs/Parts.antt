@@ -3,14 +3,17 @@ use mathlib.Core.Path.{_≡_, refl, sym, _∙_}
 use mathlib.Core.Bool.{Bool, true, false, cond}
 use mathlib.Core.List.{List, [], _∷_, _++_}
 use Prim.Native.Nat.{ℕ, _+_, _<_, _≤_}
-use borrow.Author.Tests.{ltb-true, ltb-false, le-leb, lt-leb}
+use borrow.Author.Tests.{ltb-true, le-leb, lt-leb}
 use native.Mathlib.Omega.{arith}
 use native.Mathlib.Nat.{le-of-lt}
 use lib.Dec.{leb, ltb}
 use lib.ListN.{length, take, drop, take-append-drop}
 use lib.Seq.{slice, take-add, drop-drop}
 use Rattle.address.specs.Number.{value, atMost, Bytes, order}
+use Rattle.address.specs.Order.{compared}
+use Rattle.address.specs.declared.Ordering.the-variants.{Less, Greater}
 use Rattle.address.specs.Positions.{numberIn}
+use Rattle.address.proofs.Order.{at-most-both, is-less, is-greater, is-same}
 use Rattle.address.proofs.Digits.{part-is, part-length, part-bytes}
 
 -- lists of one length before others: their order decides, unless they are the same
@@ -31,23 +34,6 @@ at-most-append (x ∷ xs) (y ∷ ys) us vs e = by-first (ltb x y) (ltb y x) refl
     by-first false true p q k = refl
     by-first false false p q k = k
 
-same-order : (xs ys : List ℕ) → atMost xs ys ≡ true → atMost ys xs ≡ true → xs ≡ ys
-unfolding atMost
-same-order [] [] p q = refl
-same-order [] (y ∷ ys) p q = let z : _≡_ {A = ℕ} 0 1 = cc in absurd (omega arith)
-same-order (x ∷ xs) [] p q = let z : _≡_ {A = ℕ} 0 1 = cc in absurd (omega arith)
-same-order (x ∷ xs) (y ∷ ys) p q = by-first (ltb x y) (ltb y x) refl refl p q (same-order xs ys)
-  where
-    by-first : (s t : Bool) → ltb x y ≡ s → ltb y x ≡ t → cond s true (cond t false (atMost xs ys)) ≡ true → cond t true (cond s false (atMost ys xs)) ≡ true
-        → (atMost xs ys ≡ true → atMost ys xs ≡ true → xs ≡ ys) → x ∷ xs ≡ y ∷ ys
-    by-first true true a b p q k = let c = ltb-true x y a in let d = ltb-true y x b in absurd (omega arith)
-    by-first true false a b p q k = let z : _≡_ {A = ℕ} 0 1 = cc in absurd (omega arith)
-    by-first false true a b p q k = let z : _≡_ {A = ℕ} 0 1 = cc in absurd (omega arith)
-    by-first false false a b p q k =
-        let e : x ≡ y = omega (arith, ltb-false x y a, ltb-false y x b) in
-        let f : xs ≡ ys = k p q in
-        cc
-
 -- words of k bytes at i
 module _ (x y : List ℕ) (b : Bytes x) (d : Bytes y) (i k : ℕ) (p : i + k ≤ length x) (q : i + k ≤ length y) where
   forth : atMost (slice i (i + k) x) (slice i (i + k) y) ≡ leb (numberIn x i k) (numberIn y i k)
@@ -67,19 +53,30 @@ module _ (x y : List ℕ) (b : Bytes x) (d : Bytes y) (i k : ℕ) (p : i + k ≤
       rw (split x p, split y q, ← forth, ← back)
       (at-most-append (slice i (i + k) x) (slice i (i + k) y) (drop (i + k) x) (drop (i + k) y) (part-length x i k p ∙ sym (part-length y i k q)))
 
-  pub word-below : numberIn x i k < numberIn y i k → true ≡ atMost (drop i x) (drop i y)
-  word-below h = sym (by-words ∙ rw (le-leb (numberIn x i k) (numberIn y i k) (le-of-lt h), lt-leb (numberIn y i k) (numberIn x i k) h))
+  below : numberIn x i k < numberIn y i k → atMost (drop i x) (drop i y) ≡ true
+  below h = by-words ∙ rw (le-leb (numberIn x i k) (numberIn y i k) (le-of-lt h), lt-leb (numberIn y i k) (numberIn x i k) h)
 
-  pub word-above : numberIn y i k < numberIn x i k → false ≡ atMost (drop i x) (drop i y)
-  word-above h = sym (by-words ∙ rw (lt-leb (numberIn x i k) (numberIn y i k) h))
+  above : numberIn y i k < numberIn x i k → atMost (drop i x) (drop i y) ≡ false
+  above h = by-words ∙ rw (lt-leb (numberIn x i k) (numberIn y i k) h)
 
-  pub word-equal : numberIn x i k ≤ numberIn y i k → numberIn y i k ≤ numberIn x i k → atMost (drop (i + k) x) (drop (i + k) y) ≡ atMost (drop i x) (drop i y)
-  word-equal h l = sym (by-words ∙ rw (le-leb (numberIn x i k) (numberIn y i k) h, le-leb (numberIn y i k) (numberIn x i k) l))
+  onward : numberIn x i k ≤ numberIn y i k → numberIn y i k ≤ numberIn x i k → atMost (drop (i + k) x) (drop (i + k) y) ≡ atMost (drop i x) (drop i y)
+  onward h l = sym (by-words ∙ rw (le-leb (numberIn x i k) (numberIn y i k) h, le-leb (numberIn y i k) (numberIn x i k) l))
 
   -- lists that are the same up to i, and words of one value there
   pub word-same : take i x ≡ take i y → numberIn x i k ≡ numberIn y i k → take (i + k) x ≡ take (i + k) y
   word-same f e =
       let g : slice i (i + k) x ≡ slice i (i + k) y =
-      same-order (slice i (i + k) x) (slice i (i + k) y) (forth ∙ le-leb (numberIn x i k) (numberIn y i k) (omega arith)) (back ∙ le-leb (numberIn y i k) (numberIn x i k) (omega arith))
+      at-most-both (slice i (i + k) x) (slice i (i + k) y) (forth ∙ le-leb (numberIn x i k) (numberIn y i k) (omega arith)) (back ∙ le-leb (numberIn y i k) (numberIn x i k) (omega arith))
       in
       rw (take-add i k x, take-add i k y, ← part-is x i k p, ← part-is y i k q, f, g)
+
+-- as one value
+module _ (x y : List ℕ) (b : Bytes x) (d : Bytes y) (i k : ℕ) (p : i + k ≤ length x) (q : i + k ≤ length y) where
+  pub word-less : numberIn x i k < numberIn y i k → Less ≡ compared (drop i x) (drop i y)
+  word-less h = sym (is-less _ _ (below x y b d i k p q h) (above y x d b i k q p h))
+
+  pub word-greater : numberIn y i k < numberIn x i k → Greater ≡ compared (drop i x) (drop i y)
+  word-greater h = sym (is-greater _ _ (above x y b d i k p q h))
+
+  pub word-equal : numberIn x i k ≤ numberIn y i k → numberIn y i k ≤ numberIn x i k → compared (drop (i + k) x) (drop (i + k) y) ≡ compared (drop i x) (drop i y)
+  word-equal h l = is-same _ _ _ _ (onward x y b d i k p q h l) (onward y x d b i k q p l h)

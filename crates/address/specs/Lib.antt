@@ -1,5 +1,6 @@
 pub mod Lists
 pub mod Number
+pub mod Order
 pub mod Words
 pub mod Ranges
 pub mod Address

@@ -2,4 +2,5 @@ pub mod EmptyPart
 pub mod Numbered
 pub mod Standing
 pub mod Spans
+pub mod Halves
 pub mod Tags

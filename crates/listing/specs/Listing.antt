@@ -2,11 +2,18 @@
 use Prim.Native.Nat.{ℕ, _≤_}
 use mathlib.Core.Bool.{cond}
 use mathlib.Core.Path.{_≡_}
-use mathlib.Core.List.{List, _++_}
+use mathlib.Core.List.{List, [], _∷_, _++_}
 use lib.Dec.{ltb}
 use lib.ListN.{length, take, drop}
+use Rattle.listing.specs.declared.Found.{Found}
+use Rattle.listing.specs.declared.Found.the-variants.{At, Nothing}
 use Rattle.listing.specs.declared.Listed.{Listed}
 use Rattle.listing.specs.declared.Listed.the-variants.{Done, Full}
+
+-- the record numbers that are found
+abbrev pub foundNumbers : Found → List ℕ
+foundNumbers (At n) = n ∷ []
+foundNumbers Nothing = []
 
 -- Whether the list has fewer places than there are records to report. The count is how many there are, also where they do not fit.
 unfoldable pub listedOf : List ℕ → ℕ → Listed

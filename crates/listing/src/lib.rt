@@ -1,7 +1,13 @@
 // Record numbers reported to a lent list.
 ghost use Prim.Native.Nat.{_≤_};
 ghost use lib.ListN.{length};
-ghost use Rattle.listing.specs.Listing.{Reported};
+ghost use Rattle.listing.specs.Listing.{foundNumbers, Reported};
+
+// The number of a record, if there is one.
+pub enum Found {
+    At(u32),
+    Nothing,
+}
 
 // How many record numbers were written, or how many places are needed.
 pub enum Listed {
@@ -26,4 +32,14 @@ pub fn report(hits: &[u32], list: &mut [u32]) -> Listed
         return Listed::Full(need as u32);
     }
     Listed::Done(need as u32)
+}
+
+// The same of one record, or of none.
+pub fn report_found(found: Found, list: &mut [u32]) -> Listed
+    ensures { λ r. ⌜ Reported (foundNumbers found) (now (list .entry)) (now (list .exit)) r ⌝ }
+{
+    match found {
+        Found::At(n) => report(&[n], list),
+        Found::Nothing => Listed::Done(0),
+    }
 }

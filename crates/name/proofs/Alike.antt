@@ -1,10 +1,10 @@
 -- Two texts compared, for a loop that has come to place i: what is left of them decides.
-use mathlib.Core.Path.{_≡_, refl, sym, ap}
-use mathlib.Core.Bool.{Bool, true, false}
+use mathlib.Core.Path.{_≡_, refl, sym, ap, ap₂, _∙_}
+use mathlib.Core.Bool.{Bool, true, false, _&&_, false≢true}
 use mathlib.Core.List.{List, [], _∷_}
 use Prim.Native.Nat.{ℕ, zero, suc, _+_, _≤_, _<_}
 use native.Mathlib.Omega.{arith}
-use borrow.Author.Tests.{eq-eqb}
+use borrow.Author.Tests.{eq-eqb, eqb-true}
 use native.Mathlib.Numerals.{add-one}
 use lib.Dec.{eqb}
 use lib.ListN.{length, getD, take, drop, drop-of-length-le}
@@ -46,3 +46,26 @@ alike-after f (c ∷ s) [] (suc i) h k e = absurd (omega arith)
 alike-after f (c ∷ s) (d ∷ t) (suc i) h k e =
     let g : foldIf f c ≡ foldIf f d = ap (λ (l : List ℕ). foldIf f (getD l 0 0)) e in
     rw (eq-eqb (foldIf f c) (foldIf f d) g) (alike-after f s t i (omega arith) (omega arith) (ap (drop 1) e))
+
+-- Exactly: the same bytes
+
+pub alike-itself : (s : List ℕ) → alike false s s ≡ true
+alike-itself s = sym (alike-after false s s (length s) (omega arith) (omega arith) refl) ∙ alike-end false s s (length s) (omega arith) (omega arith)
+
+alike-same : (s t : List ℕ) → alike false s t ≡ true → s ≡ t
+unfolding alike foldIf
+alike-same [] [] e = refl
+alike-same [] (d ∷ t) e = absurd (false≢true e)
+alike-same (c ∷ s) [] e = absurd (false≢true e)
+alike-same (c ∷ s) (d ∷ t) e = by-test (eqb c d) refl e (alike-same s t)
+  where
+    by-test : (b : Bool) → eqb c d ≡ b → (b && alike false s t) ≡ true → (alike false s t ≡ true → s ≡ t) → c ∷ s ≡ d ∷ t
+    by-test true p k onward = ap₂ _∷_ (eqb-true c d p) (onward k)
+    by-test false p k onward = absurd (false≢true k)
+
+pub alike-others : (s t : List ℕ) → (s ≡ t → ⊥) → alike false s t ≡ false
+alike-others s t n = by-test (alike false s t) refl
+  where
+    by-test : (b : Bool) → alike false s t ≡ b → b ≡ false
+    by-test false e = refl
+    by-test true e = absurd (n (alike-same s t e))

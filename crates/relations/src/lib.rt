@@ -3,21 +3,11 @@ ghost use Rattle.address.specs.Address.{numbers};
 ghost use Rattle.listing.specs.Listing.{Reported};
 ghost use Rattle.blocks.specs.Relations.{lookup as «lookup_of», up as «up_of», top as «top_of», down as «down_of», bottom as «bottom_of»};
 ghost use Rattle.scans.specs.Standing.{blocksIn, Asked};
-ghost use Rattle.scans.specs.Tests.{foundNumbers};
 use address::Range;
 use image::Run;
 use listing::Listed;
 use listing::report;
-use scans::Found;
-
-fn report_found(found: Found, list: &mut [u32]) -> Listed
-    ensures { λ r. ⌜ Reported (foundNumbers found) (now (list .entry)) (now (list .exit)) r ⌝ }
-{
-    match found {
-        Found::At(n) => report(&[n], list),
-        Found::Nothing => Listed::Done(0),
-    }
-}
+use listing::report_found;
 
 // The smallest block that covers the range.
 pub fn lookup(

@@ -20,9 +20,10 @@ use Rattle.blocks.specs.Scans.{lastPassing, firstPassing, downPass}
 use Rattle.blocks.proofs.Laminar.{Laminar}
 use Rattle.blocks.proofs.Scans.{lookup-scan, up-scan}
 use Rattle.blocks.proofs.Select.{None, first-none, last-none}
-use Rattle.scans.specs.Tests.{surroundsBy, freeAfter, keepsFrom, lastAround, foundNumbers}
-use Rattle.scans.specs.declared.Found.{Found}
-use Rattle.scans.specs.declared.Found.the-variants.{At}
+use Rattle.scans.specs.Tests.{surroundsBy, freeAfter, keepsFrom, lastAround}
+use Rattle.listing.specs.Listing.{foundNumbers}
+use Rattle.listing.specs.declared.Found.{Found}
+use Rattle.listing.specs.declared.Found.the-variants.{At}
 use Rattle.scans.proofs.Walks.{blocksLeft, Here, next-left, run-laminar}
 use Rattle.scans.proofs.Ends.{none-around, none-inside, down-none, any-none}
 use Rattle.listing.proofs.Emit.{one-more}

@@ -1,15 +1,13 @@
 -- Serves contracts and proofs. The tests of the passes.
 use Prim.Native.Nat.{ℕ, suc, _+_, _*_, _≤_}
 use mathlib.Core.Bool.{Bool, true, false, cond, _&&_}
-use mathlib.Core.List.{List, [], _∷_}
+use mathlib.Core.List.{List}
 use lib.Dec.{eqb, leb}
 use lib.ListN.{length}
 use Rattle.blocks.specs.Blocks.{Block}
 use Rattle.blocks.specs.Relations.{lookup, up}
 use Rattle.address.specs.Ranges.{Range, covers, strictlyCovers, strictlyInside}
 use Rattle.address.specs.Positions.{Wide}
-use Rattle.scans.specs.declared.Found.{Found}
-use Rattle.scans.specs.declared.Found.the-variants.{At, Nothing}
 
 -- a range of a width at a position
 pub record Comparable (s : List ℕ) (at width : ℕ) : Type 0 where
@@ -33,8 +31,3 @@ keepsFrom free r q = strictlyInside r q && leb free (r .first)
 abbrev pub lastAround : Bool → List Block → Range → List ℕ
 lastAround true bs q = up bs q
 lastAround false bs q = lookup bs q
-
--- the record numbers that an answer stands for
-abbrev pub foundNumbers : Found → List ℕ
-foundNumbers (At n) = n ∷ []
-foundNumbers Nothing = []

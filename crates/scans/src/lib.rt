@@ -9,18 +9,13 @@ ghost use Rattle.address.specs.Ranges.{covers as «covers_of», strictlyInside}
 ghost use Rattle.address.specs.Positions.{numberIn, rangeIn};
 ghost use Rattle.blocks.specs.Relations.{top as «top_of», down as «down_of»};
 ghost use Rattle.scans.specs.Standing.{blocksIn, Asked};
-ghost use Rattle.listing.specs.Listing.{Collected};
-ghost use Rattle.scans.specs.Tests.{Comparable, surroundsBy, freeAfter, keepsFrom, lastAround, foundNumbers};
+ghost use Rattle.listing.specs.Listing.{foundNumbers, Collected};
+ghost use Rattle.scans.specs.Tests.{Comparable, surroundsBy, freeAfter, keepsFrom, lastAround};
 use address::Range;
 use address::at_least_at;
 use address::at_most_at;
 use image::Run;
-
-// The record number of a block, if there is one.
-pub enum Found {
-    At(u32),
-    Nothing,
-}
+use listing::Found;
 
 // Whether the block's range at a position covers the range.
 fn covers(image: &[u8], at: usize, width: usize, range: Range) -> bool

@@ -28,13 +28,6 @@ use Rattle.listing.specs.declared.Listed.{Listed}
 use Rattle.search.specs.Search.{numbersFrom}
 use Rattle.search.specs.Picks.{picksRecord}
 
--- the test of the text, on a part of the image
-pub text-picked :
-    (fold : Bool) (form : Form) (pattern s : List ℕ) (x y : Span) → x ≡ y → x .start ≤ x .end
-    → {v : Bool} → v ≡ matchesForm fold form pattern (take (x .end - x .start) (drop (x .start) s)) → v ≡ matchesForm fold form pattern (bytesOf s y)
-text-picked fold form pattern s x y e forward k =
-    k ∙ ap (matchesForm fold form pattern) (part-slice (x .start) (x .end) s forward ∙ ap (bytesOf s) e)
-
 -- the part and the folding of case, as other functions name them
 pub picked-as :
     (first last : ℕ) (form : Form) (pattern : List ℕ) (records : List Record) {list after : List ℕ} {r : Listed} {u v : Bool} → u ≡ v → {w x : Which} → w ≡ x
@@ -51,7 +44,7 @@ module _ {s places : List ℕ} {run : Run} (a : Selected s places run) where
     known : i < a .count
     known = omega (arith, a .run-of .ends)
 
-    stands : Standing s i
+    pub stands : Standing s i
     stands = standing-of s (a .count) (a .indexed .sound) i known
 
     pub in-image : (getD places i 0 + 3 ≤ length s) × (length s ≤ 262144)
@@ -60,7 +53,7 @@ module _ {s places : List ℕ} {run : Run} (a : Selected s places run) where
     pub text-inside : (which : Which) → Inside (length s) (textSpan which s (getD places i 0))
     text-inside which = rw (a .indexed .place i known) (text-in-image stands which)
 
-    text-here : (which : Which) → bytesOf s (textSpan which s (getD places i 0)) ≡ textOf which (stands .r)
+    pub text-here : (which : Which) → bytesOf s (textSpan which s (getD places i 0)) ≡ textOf which (stands .r)
     text-here which = rw (a .indexed .place i known) (stands .text which)
 
 -- what is found from record i on

@@ -1,3 +1,4 @@
 pub mod Search
 pub mod Picks
+pub mod Seeking
 pub mod Computing

@@ -1,105 +1,30 @@
--- The loop's invariant: what is left from i on decides. A word of eight bytes of each passes, or ends it.
-use mathlib.Core.Path.{_≡_, _∙_}
-use Prim.Native.Nat.{_≤_, _-_}
-use lib.ListN.{length, drop}
-use native.Mathlib.Omega.{arith}
-use denote.Ref.{now}
-use Rattle.address.specs.Number.{atMost, Bytes}
-use Rattle.address.proofs.Parts as words
+-- What the comparison tells of the first text.
+use mathlib.Core.Path.{sym, _∙_}
 use borrow.Author.Needs.{needs}
+use Rattle.address.proofs.Order.{told-first}
 use Rattle.address.proofs.bytes_at_most.Statement.{statement}
 use Rattle.address.proofs.bytes_at_most.Tie as tie
 
-abbrev Inv-loop : tie.InvT-loop
-Inv-loop a b n i₀ i = (i ≤ n) × (n ≤ length a) × (n ≤ length b) × (atMost (drop i a) (drop i b) ≡ atMost a b)
+compare-requires : tie.Need-compare-requires
+compare-requires c κs = search needs
 
-abbrev μ-loop : tie.MeasureT-loop
-μ-loop a b n i₀ i = n - i
+enum-told : tie.Need-enum-told
+enum-told c = search needs
 
--- both slices hold bytes
-known : (c : tie.After-shared-slice-known2 Inv-loop μ-loop) → Bytes (now (c .before .before .args .a)) × Bytes (now (c .before .before .args .b))
-known c = (
-  λ i h. omega (arith, c .before .shared-slice-known .given i),
-  λ i h. omega (arith, c .shared-slice-known2 .given i),
-)
+enum-told-2 : tie.Need-enum-told-2
+enum-told-2 c = search needs
 
-lesser-requires : tie.Need-lesser-requires Inv-loop μ-loop
-lesser-requires c κs = search needs
+enum-told-3 : tie.Need-enum-told-3
+enum-told-3 c = search needs
 
-loop-holds : tie.Need-loop-holds Inv-loop μ-loop
-loop-holds c = search needs
+returns : tie.Need-returns
+returns c = sym (told-first _ _ (sym (c .before .before .compare .ensures) ∙ c .enum-told .given .1))
 
-sub-loop : tie.Need-sub-loop Inv-loop μ-loop
-sub-loop c = search needs
+returns-2 : tie.Need-returns-2
+returns-2 c = sym (told-first _ _ (sym (c .before .before .compare .ensures) ∙ c .enum-told2 .given .1))
 
-word8-requires : tie.Need-word8-requires Inv-loop μ-loop
-word8-requires c κs = search needs
-
-word8-requires-2 : tie.Need-word8-requires-2 Inv-loop μ-loop
-word8-requires-2 c κs = search needs
-
-returns : tie.Need-returns Inv-loop μ-loop
-returns c =
-    let l = c .before .before .before .before .loop in
-    let k = c .before .before .before .before .before .before in
-    let a = k .before .before .args in
-    let x = c .before .before .word8 .ensures in
-    let y = c .before .word82 .ensures in
-    words.word-below (now (a .a)) (now (a .b)) (known k .0) (known k .1) (l .i) 8 (omega arith) (omega arith) (omega (arith, c .if1 .taken))
-    ∙ l .inv .3
-
-returns-2 : tie.Need-returns-2 Inv-loop μ-loop
-returns-2 c =
-    let l = c .before .before .before .before .before .loop in
-    let k = c .before .before .before .before .before .before .before in
-    let a = k .before .before .args in
-    let x = c .before .before .before .word8 .ensures in
-    let y = c .before .before .word82 .ensures in
-    words.word-above (now (a .a)) (now (a .b)) (known k .0) (known k .1) (l .i) 8 (omega arith) (omega arith) (omega (arith, c .if2 .taken))
-    ∙ l .inv .3
-
-add-i : tie.Need-add-i Inv-loop μ-loop
-add-i c = search needs
-
-loop-less : tie.Need-loop-less Inv-loop μ-loop
-loop-less c = search needs
-
-loop-again : tie.Need-loop-again Inv-loop μ-loop
-loop-again c =
-    let l = c .before .before .before .before .before .loop in
-    let k = c .before .before .before .before .before .before .before in
-    let a = k .before .before .args in
-    let x = c .before .before .before .word8 .ensures in
-    let y = c .before .before .word82 .ensures in (
-      omega arith,
-      omega arith,
-      omega arith,
-      words.word-equal (now (a .a)) (now (a .b)) (known k .0) (known k .1) (l .i) 8 (omega arith) (omega arith)
-          (omega (arith, c .if2 .left)) (omega (arith, c .before .if1 .left))
-          ∙ l .inv .3,
-    )
-
-rest-at-most-requires : tie.Need-rest-at-most-requires Inv-loop μ-loop
-rest-at-most-requires c κs = search needs
-
-returns-3 : tie.Need-returns-3 Inv-loop μ-loop
-returns-3 c = c .rest-at-most .ensures ∙ c .before .before .loop .inv .3
+returns-3 : tie.Need-returns-3
+returns-3 c = sym (told-first _ _ (sym (c .before .before .compare .ensures) ∙ c .enum-told3 .given .1))
 
 pub bytes-at-most-spec : {M : Type 1} → statement M
-bytes-at-most-spec =
-    tie.close
-    (tie.spec
-    Inv-loop
-    μ-loop
-    lesser-requires
-    loop-holds
-    sub-loop
-    word8-requires
-    word8-requires-2
-    returns
-    returns-2
-    add-i
-    loop-less
-    loop-again
-    rest-at-most-requires
-    returns-3)
+bytes-at-most-spec = tie.close (tie.spec compare-requires enum-told enum-told-2 enum-told-3 returns returns-2 returns-3)

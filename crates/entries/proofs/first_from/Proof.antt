@@ -1,23 +1,24 @@
--- The loop: the records before low have lower tags, those from high on have not (Halved in Tags.antt).
+-- The loop: the records before low have lower tags, those from high on have not (Halved in Halves.antt).
 use Prim.Native.Nat.{_+_, _-_, _/_, _≤_, _<_}
 use native.Mathlib.Omega.{arith}
 use lib.ListN.{length, getD}
 use denote.Ref.{now}
 use borrow.Author.Needs.{needs}
 use Rattle.image.proofs.Soundness.{few-records, few-bytes}
-use Rattle.entries.proofs.Standing.{place-inside}
-use Rattle.entries.proofs.Tags.{Halved, halve-none, halve-up, halve-down, halve-end}
+use Rattle.entries.proofs.Standing.{tag-here, place-inside}
+use Rattle.entries.proofs.Halves.{Halved, halve-none, halve-up, halve-down}
+use Rattle.entries.proofs.Tags.{below, notBelow, tags-sorted, first-found}
 use Rattle.entries.proofs.first_from.Statement.{statement}
 use Rattle.entries.proofs.first_from.Tie as tie
 
 abbrev Inv-loop : tie.InvT-loop
-Inv-loop image places count tag low₀ high₀ low high = Halved image count tag low high
+Inv-loop image places count tag low₀ high₀ low high = Halved (below image tag) (notBelow image tag) 0 count low high
 
 abbrev μ-loop : tie.MeasureT-loop
 μ-loop image places count tag low₀ high₀ low high = high - low
 
 loop-holds : tie.Need-loop-holds Inv-loop μ-loop
-loop-holds c = halve-none _ _ _
+loop-holds c = halve-none (omega arith)
 
 sub-i : tie.Need-sub-i Inv-loop μ-loop
 sub-i c = search needs
@@ -31,7 +32,7 @@ cast-if1 c = search needs
 -- the record in the middle has a number, and its place is in the image
 numbered : (c : tie.In-loop Inv-loop μ-loop)
     → c .before .loop .low + (c .before .loop .high - c .before .loop .low) / 2 < c .before .before .args .count
-numbered c = omega (arith, c .before .loop .inv .few, c .loop-test .taken)
+numbered c = omega (arith, c .before .loop .inv .ends, c .loop-test .taken)
 
 stands : (c : tie.In-loop Inv-loop μ-loop)
     → getD (now (c .before .before .args .places)) (c .before .loop .low + (c .before .loop .high - c .before .loop .low) / 2) 0 + 3 ≤ length (now (c .before .before .args .image))
@@ -57,19 +58,21 @@ loop-less c = search needs
 
 loop-again : tie.Need-loop-again Inv-loop μ-loop
 loop-again c =
-    halve-up _ _ _ (c .before .before .before .before .before .pre) _ _ _ _ (c .before .before .before .before .loop .inv)
-    (omega arith) (omega (arith, c .before .before .before .loop-test .taken)) (c .if1 .taken)
+    let here = c .before .before .before in
+    halve-up (tags-sorted _ _ _ (here .before .before .pre .sound)) _ _ _ (here .before .loop .inv)
+    (omega arith) (omega (arith, here .loop-test .taken)) (omega (arith, tag-here _ _ _ (here .before .before .pre) _ (numbered here), c .if1 .taken))
 
 loop-less-2 : tie.Need-loop-less-2 Inv-loop μ-loop
 loop-less-2 c = search needs
 
 loop-again-2 : tie.Need-loop-again-2 Inv-loop μ-loop
 loop-again-2 c =
-    halve-down _ _ _ (c .before .before .before .before .before .pre) _ _ _ _ (c .before .before .before .before .loop .inv)
-    (omega arith) (omega (arith, c .before .before .before .loop-test .taken)) (c .if1 .left)
+    let here = c .before .before .before in
+    halve-down (tags-sorted _ _ _ (here .before .before .pre .sound)) _ _ _ (here .before .loop .inv)
+    (omega arith) (omega (arith, here .loop-test .taken)) (omega (arith, tag-here _ _ _ (here .before .before .pre) _ (numbered here), c .if1 .left))
 
 returns : tie.Need-returns Inv-loop μ-loop
-returns c = halve-end _ _ _ _ _ (c .before .loop .inv) (c .loop-test .left)
+returns c = first-found (c .before .loop .inv) (c .loop-test .left)
 
 pub first-from-spec : {M : Type 1} → statement M
 first-from-spec =

@@ -7,7 +7,8 @@ use mathlib.Core.Path.{_≡_, sym, _∙_}
 use Rattle.address.specs.Address.{numbers}
 use Rattle.blocks.specs.Scans.{lastPassing}
 use Rattle.scans.specs.Standing.{blocksIn}
-use Rattle.scans.specs.Tests.{surroundsBy, lastAround, foundNumbers}
+use Rattle.scans.specs.Tests.{surroundsBy, lastAround}
+use Rattle.listing.specs.Listing.{foundNumbers}
 use Rattle.scans.proofs.Walks.{blocksLeft, run-start, run-end, within, asked-accepted, asked-proper, Here, comparable}
 use Rattle.scans.proofs.Turns.{around-scan, last-stop, not-after, last-found, last-missed}
 use borrow.Author.Needs.{needs}

@@ -1,9 +1,9 @@
--- `relations::report_found` meets its contract: one record number, or none.
+-- One record number, or none.
 use denote.Ref.{now}
 use Rattle.listing.proofs.Replies.{nothing-reported}
 use borrow.Author.Needs.{needs}
-use Rattle.relations.proofs.report_found.Statement.{statement}
-use Rattle.relations.proofs.report_found.Tie as tie
+use Rattle.listing.proofs.report_found.Statement.{statement}
+use Rattle.listing.proofs.report_found.Tie as tie
 
 enum-known-found : tie.Need-enum-known-found
 enum-known-found c = search needs

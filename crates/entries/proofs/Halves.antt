@@ -1,0 +1,68 @@
+-- The search by halves, once for every sorted run: each step looks at one element, which comes before what is sought, behind it, or is it.
+use Prim.Native.Nat.{ℕ, zero, suc, _+_, _-_, _^_, _/_, _≤_, _<_}
+use mathlib.Core.Path.{_≡_, subst}
+use native.Mathlib.Nat.{two-pow-succ}
+use native.Mathlib.Omega.{arith}
+
+-- what comes before what is sought comes first in the run, and what comes behind it comes last
+pub record Sorted (before behind : ℕ → Type 0) (from until : ℕ) : Type 0 where
+  pub down : (i j : ℕ) → from ≤ i → i ≤ j → j < until → before j → before i
+  pub up : (i j : ℕ) → from ≤ i → i ≤ j → j < until → behind i → behind j
+
+-- neighbours are enough
+module _ {before behind : ℕ → Type 0} {from until : ℕ} (down : (i : ℕ) → from ≤ i → i + 1 < until → before (i + 1) → before i)
+    (up : (i : ℕ) → from ≤ i → i + 1 < until → behind i → behind (i + 1)) where
+  down-by : (n i j : ℕ) → i + n ≡ j → from ≤ i → j < until → before j → before i
+  down-by zero i j e h k b = let f : j ≡ i = omega arith in subst before f b
+  down-by (suc n) i j e h k b = down i h (omega arith) (down-by n (i + 1) j (omega arith) (omega arith) k b)
+
+  up-by : (n i j : ℕ) → i + n ≡ j → from ≤ i → j < until → behind i → behind j
+  up-by zero i j e h k b = let f : i ≡ j = omega arith in subst behind f b
+  up-by (suc n) i j e h k b = up-by n (i + 1) j (omega arith) (omega arith) k (up i h (omega arith) b)
+
+  pub by-neighbours : Sorted before behind from until
+  by-neighbours = record { down = λ i j h k l b. down-by (j - i) i j (omega arith) h l b; up = λ i j h k l b. up-by (j - i) i j (omega arith) h l b }
+
+-- the elements before low come before what is sought, those from high on behind it
+pub record Halved (before behind : ℕ → Type 0) (from until low high : ℕ) : Type 0 where
+  pub starts : from ≤ low
+  pub forward : low ≤ high
+  pub ends : high ≤ until
+  pub below : (i : ℕ) → from ≤ i → i < low → before i
+  pub above : (i : ℕ) → high ≤ i → i < until → behind i
+
+module _ {before behind : ℕ → Type 0} {from until : ℕ} where
+  pub halve-none : from ≤ until → Halved before behind from until from until
+  halve-none h = record {
+    starts = omega arith;
+    forward = h;
+    ends = omega arith;
+    below = λ i k l. absurd (omega (arith, k, l));
+    above = λ i k l. absurd (omega (arith, k, l));
+  }
+
+  module _ (o : Sorted before behind from until) (low high i : ℕ) (w : Halved before behind from until low high) (a : low ≤ i) (b : i < high) where
+    pub halve-up : before i → Halved before behind from until (i + 1) high
+    halve-up h = record {
+      starts = omega (arith, w .starts);
+      forward = omega arith;
+      ends = w .ends;
+      below = λ j k l. o .down j i k (omega (arith, l)) (omega (arith, w .ends)) h;
+      above = w .above;
+    }
+
+    pub halve-down : behind i → Halved before behind from until low i
+    halve-down h = record {
+      starts = w .starts;
+      forward = a;
+      ends = omega (arith, w .ends);
+      below = w .below;
+      above = λ j k l. o .up i j (omega (arith, w .starts)) k l h;
+    }
+
+-- fewer than 2 ^ k elements are left; a step leaves at most half of them, so that k steps are enough
+pub fewer : (k n m : ℕ) → 0 < n → n < 2 ^ k → m ≤ n / 2 → (0 < k) × (m < 2 ^ (k - 1))
+fewer zero n m h l j = absurd (omega arith)
+fewer (suc k) n m h l j =
+    let e : suc k - 1 ≡ k = omega arith in
+    (omega arith, rw e (omega (arith, two-pow-succ k)))

@@ -1,0 +1,156 @@
+-- The search by halves in a run that is sorted by the text that is sought: what the steps leave, and what is found in the end.
+use Prim.Native.Nat.{ℕ, zero, suc, _+_, _-_, _^_, _/_, _≤_, _<_}
+use mathlib.Core.Bool.{Bool, true, false}
+use mathlib.Core.Path.{_≡_, refl, sym, ap, _∙_}
+use mathlib.Core.List.{List, [], _∷_}
+use native.Mathlib.Omega.{arith}
+use borrow.Author.Tests.{not-true, leb-true, leb-false}
+use lib.Dec.{leb}
+use lib.ListN.{take, drop, getD}
+use Rattle.address.specs.Lists.{keep}
+use Rattle.address.specs.Number.{atMost}
+use Rattle.address.specs.Order.{compared}
+use Rattle.address.specs.declared.Ordering.{Ordering}
+use Rattle.address.proofs.Order.{after-trans, not-after-itself}
+use Rattle.name.specs.Compare.{alike}
+use Rattle.name.specs.declared.Text.{Text}
+use Rattle.name.proofs.Alike.{alike-itself, alike-others}
+use Rattle.pattern.specs.Pattern.{matchesForm}
+use Rattle.pattern.specs.declared.Form.the-variants.{Exact}
+use Rattle.fields.specs.Slices.{part-slice}
+use Rattle.records.specs.Record.{Record, sortedAfter, follows}
+use Rattle.records.specs.Place.{bytesOf}
+use Rattle.records.specs.declared.Span.{Span}
+use Rattle.image.specs.Image.{imageOf}
+use Rattle.image.specs.Part.{recordsOf, textOf}
+use Rattle.image.specs.Entries.{textSpan}
+use Rattle.image.specs.Index.{Selected}
+use Rattle.image.specs.declared.Run.{Run}
+use Rattle.image.specs.declared.Which.{Which}
+use Rattle.entries.proofs.Halves.{Sorted, by-neighbours, Halved, fewer}
+use Rattle.entries.proofs.Tags.{record-follows}
+use Rattle.query.specs.Query.{source}
+use Rattle.search.specs.Search.{numbersFrom, whichOf, fieldOf, isOf, isCalled}
+use Rattle.search.specs.Seeking.{SortedBy, domains, nameservers, entities}
+use Rattle.search.proofs.Picks.{stands, text-here, foundFrom, turn, before-run, behind-run}
+
+-- the text of record i, where the index says that it stands
+abbrev pub keyAt : List ℕ → List ℕ → Which → ℕ → List ℕ
+keyAt s places which i = bytesOf s (textSpan which s (getD places i 0))
+
+abbrev pub Before : List ℕ → List ℕ → Which → List ℕ → ℕ → Type 0
+Before s places which wanted i = atMost wanted (keyAt s places which i) ≡ false
+
+abbrev pub Behind : List ℕ → List ℕ → Which → List ℕ → ℕ → Type 0
+Behind s places which wanted i = atMost (keyAt s places which i) wanted ≡ false
+
+-- The keys of the run rise
+
+one-tag : {first last : ℕ} {text : Text} → SortedBy first last text → first ≡ last
+one-tag domains = refl
+one-tag nameservers = refl
+one-tag entities = refl
+
+key-after : {first last : ℕ} {text : Text} → SortedBy first last text → (p r : Record) → p .tag ≡ first → r .tag ≡ first
+    → follows p r ≡ true → atMost (textOf (whichOf text) r) (textOf (whichOf text) p) ≡ false
+unfolding follows sortedAfter
+key-after domains p r h k e = not-true (atMost (r .name) (p .name)) (rw (h, k) at e)
+key-after nameservers p r h k e = not-true (atMost (r .name) (p .name)) (rw (h, k) at e)
+key-after entities p r h k e = not-true (atMost (r .handle) (p .handle)) (rw (h, k) at e)
+
+-- which part of a record the text is
+module _ {s places : List ℕ} {run : Run} (a : Selected s places run) {text : Text} (l : SortedBy (run .first) (run .last) text) (which : Which) (by : which ≡ whichOf text) where
+  abbrev key : ℕ → List ℕ
+  key i = keyAt s places which i
+
+  tag-is : (i : ℕ) → run .from ≤ i → (h : i < run .until) → stands a i h .r .tag ≡ run .first
+  tag-is i k h = let t = a .run-of .inside i k h in omega (arith, stands a i h .tag, t .0, t .1, one-tag l)
+
+  next-key : (i : ℕ) → run .from ≤ i → i + 1 < run .until → atMost (key (i + 1)) (key i) ≡ false
+  next-key i h k =
+      let x = stands a i (omega arith) in
+      let y = stands a (i + 1) k in
+      rw (text-here a i (omega arith) which, text-here a (i + 1) k which)
+      (rw by (key-after l (x .r) (y .r) (tag-is i h (omega arith)) (tag-is (i + 1) (omega arith) k) (record-follows s (a .count) (a .indexed .sound) i x y)))
+
+  module _ (wanted : List ℕ) where
+    pub keys-sorted : Sorted (Before s places which wanted) (Behind s places which wanted) (run .from) (run .until)
+    keys-sorted =
+        by-neighbours (λ i h k b. after-trans (key i) (key (i + 1)) wanted (next-key i h k) b) (λ i h k b. after-trans wanted (key i) (key (i + 1)) b (next-key i h k))
+
+    -- what the full reading finds, from record i on
+    abbrev from : ℕ → List ℕ
+    from i = foundFrom s run which false Exact wanted i
+
+    abbrev reading : List ℕ
+    reading = numbersFrom (isCalled (source (run .first) (run .last) text) wanted) 0 (recordsOf (imageOf s))
+
+    is-reading : from 0 ≡ reading
+    unfolding isCalled isOf fieldOf matchesForm
+    is-reading = ap (λ (x : Which). foundFrom s run x false Exact wanted 0) by
+
+    step : (i : ℕ) → run .from ≤ i → i < run .until → {v : Bool} → alike false wanted (key i) ≡ v → from i ≡ keep v i (from (i + 1))
+    unfolding matchesForm
+    step i h k e = turn a which false Exact wanted i h k (sym e)
+
+    before-unlike : (i : ℕ) → Before s places which wanted i → alike false wanted (key i) ≡ false
+    before-unlike i h = alike-others wanted (key i) (not-after-itself wanted (key i) h)
+
+    behind-unlike : (i : ℕ) → Behind s places which wanted i → alike false wanted (key i) ≡ false
+    behind-unlike i h = alike-others wanted (key i) (λ e. not-after-itself (key i) wanted h (sym e))
+
+    unlike : (n i j : ℕ) → i + n ≡ j → run .from ≤ i → j ≤ run .until → ((m : ℕ) → i ≤ m → m < j → alike false wanted (key m) ≡ false) → from i ≡ from j
+    unlike zero i j e h k others = let f : i ≡ j = omega arith in ap from f
+    unlike (suc n) i j e h k others =
+        step i h (omega arith) (others i (omega arith) (omega arith))
+        ∙ unlike n (i + 1) j (omega arith) (omega arith) k (λ m p. others m (omega arith))
+
+    -- every record of the run comes before or behind
+    pub none-found : (low high : ℕ) → Halved (Before s places which wanted) (Behind s places which wanted) (run .from) (run .until) low high → high ≤ low → [] ≡ reading
+    none-found low high w h =
+        let f = a .run-of .forward in
+        sym (sym (before-run a which false Exact wanted)
+        ∙ unlike (run .until - run .from) (run .from) (run .until) (omega arith) (omega arith) (omega arith) (λ m p q. by-place m p q (leb low m) refl)
+        ∙ behind-run a which false Exact wanted)
+        ∙ is-reading
+      where
+        by-place : (m : ℕ) → run .from ≤ m → m < run .until → (t : Bool) → leb low m ≡ t → alike false wanted (key m) ≡ false
+        by-place m p q true e = behind-unlike m (w .above m (omega (arith, leb-true low m e)) q)
+        by-place m p q false e = before-unlike m (w .below m p (omega (arith, leb-false low m e)))
+
+    -- the record that is sought is the only one: its neighbours come before and behind it
+    module _ (i : ℕ) (h : run .from ≤ i) (k : i < run .until) (e : key i ≡ wanted) where
+      earlier : (m : ℕ) → run .from ≤ m → m < i → alike false wanted (key m) ≡ false
+      earlier m p q =
+          let f : i - 1 + 1 ≡ i = omega arith in
+          before-unlike m (keys-sorted .down m (i - 1) p (omega arith) (omega arith) (rw (f, e) at (next-key (i - 1) (omega arith) (omega arith))))
+
+      later : (m : ℕ) → i + 1 ≤ m → m < run .until → alike false wanted (key m) ≡ false
+      later m p q = behind-unlike m (keys-sorted .up (i + 1) m (omega arith) p q (rw e at (next-key i h (omega arith))))
+
+      pub one-found : i ∷ [] ≡ reading
+      one-found =
+          sym (sym (before-run a which false Exact wanted)
+          ∙ unlike (i - run .from) (run .from) i (omega arith) (omega arith) (omega arith) earlier
+          ∙ step i h k {v = true} (rw e (alike-itself wanted))
+          ∙ ap (λ (l : List ℕ). i ∷ l)
+          (unlike (run .until - (i + 1)) (i + 1) (run .until) (omega arith) (omega arith) (omega arith) later ∙ behind-run a which false Exact wanted))
+          ∙ is-reading
+
+-- How many records are left after so many steps
+
+pub record Left (steps left : ℕ) : Type 0 where
+  pub bounded : steps ≤ 13
+  pub few-left : left < 2 ^ (13 - steps)
+
+pub at-start : (from until : ℕ) → until ≤ 4096 → Left 0 (until - from)
+at-start from until h = record { bounded = omega arith; few-left = omega arith }
+
+module _ (steps low high : ℕ) (h : low < high) (l : Left steps (high - low)) where
+  pub step-allowed : steps < 13
+  step-allowed = omega (arith, fewer (13 - steps) (high - low) 0 (omega arith) (l .few-left) (omega arith) .0)
+
+  pub step-taken : (later left : ℕ) → later ≡ steps + 1 → left ≤ (high - low) / 2 → Left later left
+  step-taken later left e m =
+      let f : 13 - later ≡ 13 - steps - 1 = omega arith in
+      record { bounded = omega (arith, step-allowed); few-left = rw f (fewer (13 - steps) (high - low) left (omega arith) (l .few-left) m .1) }

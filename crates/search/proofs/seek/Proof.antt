@@ -1,0 +1,152 @@
+-- The loop: the records before low come before what is wanted, those from high on behind it, and fewer than 2 ^ (13 - steps) are left.
+use Prim.Native.Nat.{_+_, _-_, _/_, _<_}
+use mathlib.Core.Path.{_≡_, sym, _∙_}
+use native.Mathlib.Omega.{arith}
+use denote.Ref.{now}
+use borrow.Author.Needs.{needs}
+use Rattle.address.proofs.Order.{told-first, told-second, told-equal}
+use Rattle.image.specs.Index.{Selected}
+use Rattle.entries.proofs.Halves.{Halved, halve-none, halve-up, halve-down}
+use Rattle.search.proofs.Picks.{few, in-image, text-inside}
+use Rattle.search.proofs.Seeking.{Before, Behind, keys-sorted, none-found, one-found, Left, at-start, step-allowed, step-taken}
+use Rattle.search.proofs.seek.Statement.{statement}
+use Rattle.search.proofs.seek.Tie as tie
+
+abbrev Inv-loop : tie.InvT-loop
+Inv-loop image places wanted which low₀ high₀ steps₀ low high steps =
+    Halved (Before image places which wanted) (Behind image places which wanted) low₀ high₀ low high × Left steps (high - low)
+
+abbrev μ-loop : tie.MeasureT-loop
+μ-loop image places wanted which low₀ high₀ steps₀ low high steps = high - low
+
+which-of-requires : tie.Need-which-of-requires Inv-loop μ-loop
+which-of-requires c κs = search needs
+
+loop-holds : tie.Need-loop-holds Inv-loop μ-loop
+loop-holds c =
+    let chosen = c .before .before .before .pre .0 in
+    (halve-none (chosen .run-of .forward), at-start _ _ (few chosen))
+
+chosen :
+    (c : tie.In-loop Inv-loop μ-loop)
+    → let a = c .before .before .before .before .before .args in Selected (now (a .image)) (now (a .places)) (a .run)
+chosen c = c .before .before .before .before .before .pre .0
+
+-- the record in the middle is one of the run
+middle :
+    (c : tie.In-loop Inv-loop μ-loop)
+    → c .before .loop .low + (c .before .loop .high - c .before .loop .low) / 2 < c .before .before .before .before .before .args .run .until
+middle c = omega (arith, c .before .loop .inv .0 .ends, c .loop-test .taken)
+
+sub-i : tie.Need-sub-i Inv-loop μ-loop
+sub-i c = search needs
+
+add-i : tie.Need-add-i Inv-loop μ-loop
+add-i c = search needs
+
+cast-at : tie.Need-cast-at Inv-loop μ-loop
+cast-at c = search needs
+
+mul-at : tie.Need-mul-at Inv-loop μ-loop
+mul-at c = omega (arith, middle c)
+
+element-copy-out-at : tie.Need-element-copy-out-at Inv-loop μ-loop
+element-copy-out-at c = omega (arith, few (chosen c), middle c)
+
+cast-at-2 : tie.Need-cast-at-2 Inv-loop μ-loop
+cast-at-2 c = omega (arith, in-image (chosen (c .before)) _ (middle (c .before)))
+
+compare-at-requires : tie.Need-compare-at-requires Inv-loop μ-loop
+compare-at-requires c κs =
+    let here = c .before .before in
+    let walk = here .before .loop in
+    (text-inside (chosen here) _ (middle here) _, step-allowed (walk .steps) (walk .low) (walk .high) (here .loop-test .taken) (walk .inv .1))
+
+enum-told : tie.Need-enum-told Inv-loop μ-loop
+enum-told c = search needs
+
+add-low : tie.Need-add-low Inv-loop μ-loop
+add-low c = search needs
+
+loop-less : tie.Need-loop-less Inv-loop μ-loop
+loop-less c = search needs
+
+loop-again : tie.Need-loop-again Inv-loop μ-loop
+loop-again c =
+    let told = c .before .before in
+    let here = told .before .before .before in
+    let start = here .before .before .before .before .before in
+    let walk = here .before .loop in
+    let order = keys-sorted (start .pre .0) (start .pre .1) _ (here .before .before .which-of .ensures) (now (start .args .wanted)) in (
+      halve-up order _ _ _ (walk .inv .0) (omega arith) (omega arith) (told-second _ _ (sym (told .compare-at .ensures .0) ∙ c .enum-told .given .1)),
+      step-taken (walk .steps) (walk .low) (walk .high) (here .loop-test .taken) (walk .inv .1) _ _ (told .compare-at .ensures .1) (omega arith),
+    )
+
+enum-told-2 : tie.Need-enum-told-2 Inv-loop μ-loop
+enum-told-2 c = search needs
+
+returns : tie.Need-returns Inv-loop μ-loop
+returns c =
+    let told = c .before .before in
+    let here = told .before .before .before in
+    let start = here .before .before .before .before .before in
+    let walk = here .before .loop in
+    record {
+      bounded = step-taken (walk .steps) (walk .low) (walk .high) (here .loop-test .taken) (walk .inv .1) _ 0 (told .compare-at .ensures .1) (omega arith) .bounded;
+      answer =
+          one-found (start .pre .0) (start .pre .1) _ (here .before .before .which-of .ensures) (now (start .args .wanted)) _ (omega (arith, walk .inv .0 .starts)) (middle here)
+          (told-equal _ _ (sym (told .compare-at .ensures .0) ∙ c .enum-told2 .given .1));
+    }
+
+enum-told-3 : tie.Need-enum-told-3 Inv-loop μ-loop
+enum-told-3 c = search needs
+
+loop-less-2 : tie.Need-loop-less-2 Inv-loop μ-loop
+loop-less-2 c = search needs
+
+loop-again-2 : tie.Need-loop-again-2 Inv-loop μ-loop
+loop-again-2 c =
+    let told = c .before .before in
+    let here = told .before .before .before in
+    let start = here .before .before .before .before .before in
+    let walk = here .before .loop in
+    let order = keys-sorted (start .pre .0) (start .pre .1) _ (here .before .before .which-of .ensures) (now (start .args .wanted)) in (
+      halve-down order _ _ _ (walk .inv .0) (omega arith) (omega arith) (told-first _ _ (sym (told .compare-at .ensures .0) ∙ c .enum-told3 .given .1)),
+      step-taken (walk .steps) (walk .low) (walk .high) (here .loop-test .taken) (walk .inv .1) _ _ (told .compare-at .ensures .1) (omega arith),
+    )
+
+returns-2 : tie.Need-returns-2 Inv-loop μ-loop
+returns-2 c =
+    let start = c .before .before .before .before .before in
+    let walk = c .before .loop in
+    record {
+      bounded = walk .inv .1 .bounded;
+      answer =
+          none-found (start .pre .0) (start .pre .1) _ (c .before .before .which-of .ensures) (now (start .args .wanted)) (walk .low) (walk .high) (walk .inv .0) (c .loop-test .left);
+    }
+
+pub seek-spec : {M : Type 1} → statement M
+seek-spec =
+    tie.close
+    (tie.spec
+    Inv-loop
+    μ-loop
+    which-of-requires
+    loop-holds
+    sub-i
+    add-i
+    cast-at
+    mul-at
+    element-copy-out-at
+    cast-at-2
+    compare-at-requires
+    enum-told
+    add-low
+    loop-less
+    loop-again
+    enum-told-2
+    returns
+    enum-told-3
+    loop-less-2
+    loop-again-2
+    returns-2)
