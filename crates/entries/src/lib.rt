@@ -1,6 +1,6 @@
 // The records of a sound image by their tags and numbers: those with a tag, and the handle or the name of one.
 ghost use mathlib.Core.Path.{_≡_};
-ghost use Prim.Native.Nat.{_≤_};
+ghost use Prim.Native.Nat.{_+_, _-_, _/_, _≤_, _<_};
 ghost use Rattle.image.specs.Image.{imageOf};
 ghost use Rattle.image.specs.Part.{excerptOf, PartFrom};
 ghost use Rattle.image.specs.Entries.{textSpan, spanOf, PartSpan};
@@ -15,6 +15,14 @@ use records::Span;
 use records::handle_span;
 use records::name_span;
 
+// The middle of what is left to a search by halves: at most half of it lies before, and at most half behind.
+pub fn middle(low: u32, high: u32) -> u32
+    requires { ⌜ low < high ⌝ }
+    ensures { λ r. ⌜ (low ≤ r) × (r < high) × (r - low ≤ (high - low) / 2) × (high - (r + 1) ≤ (high - low) / 2) ⌝ }
+{
+    low + (high - low) / 2
+}
+
 // The number of the first record of a sound image whose tag is not below this one; their number, if there is none. By halves, since the
 // records are sorted by tag.
 pub fn first_from(image: &[u8], places: &[u32; 4096], count: u32, tag: u8) -> u32
@@ -24,7 +32,7 @@ pub fn first_from(image: &[u8], places: &[u32; 4096], count: u32, tag: u8) -> u3
     let mut low: u32 = 0;
     let mut high = count;
     while low < high {
-        let i = low + (high - low) / 2;
+        let i = middle(low, high);
         if image[places[i as usize] as usize] < tag {
             low = i + 1;
         } else {

@@ -7,14 +7,12 @@ use native.Mathlib.Numerals.{add-one}
 use native.Mathlib.Omega.{arith}
 use borrow.Author.Tests.{lt-leb, le-leb}
 use lib.Dec.{leb}
-use lib.ListN.{length, take, drop, getD, drop-of-length-le}
+use lib.ListN.{length, drop, getD, drop-of-length-le}
 use Rattle.address.specs.Lists.{within, keep}
 use Rattle.pattern.specs.Pattern.{matchesForm}
 use Rattle.pattern.specs.declared.Form.{Form}
 use Rattle.records.specs.Record.{Record}
-use Rattle.fields.specs.Slices.{part-slice}
 use Rattle.records.specs.Place.{bytesOf, Inside}
-use Rattle.records.specs.declared.Span.{Span}
 use Rattle.image.specs.Image.{imageOf}
 use Rattle.image.specs.Part.{recordsOf, textOf}
 use Rattle.image.specs.Entries.{textSpan}

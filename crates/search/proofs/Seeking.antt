@@ -6,21 +6,17 @@ use mathlib.Core.List.{List, [], _∷_}
 use native.Mathlib.Omega.{arith}
 use borrow.Author.Tests.{not-true, leb-true, leb-false}
 use lib.Dec.{leb}
-use lib.ListN.{take, drop, getD}
+use lib.ListN.{getD}
 use Rattle.address.specs.Lists.{keep}
 use Rattle.address.specs.Number.{atMost}
-use Rattle.address.specs.Order.{compared}
-use Rattle.address.specs.declared.Ordering.{Ordering}
 use Rattle.address.proofs.Order.{after-trans, not-after-itself}
 use Rattle.name.specs.Compare.{alike}
 use Rattle.name.specs.declared.Text.{Text}
 use Rattle.name.proofs.Alike.{alike-itself, alike-others}
 use Rattle.pattern.specs.Pattern.{matchesForm}
 use Rattle.pattern.specs.declared.Form.the-variants.{Exact}
-use Rattle.fields.specs.Slices.{part-slice}
 use Rattle.records.specs.Record.{Record, sortedAfter, follows}
 use Rattle.records.specs.Place.{bytesOf}
-use Rattle.records.specs.declared.Span.{Span}
 use Rattle.image.specs.Image.{imageOf}
 use Rattle.image.specs.Part.{recordsOf, textOf}
 use Rattle.image.specs.Entries.{textSpan}

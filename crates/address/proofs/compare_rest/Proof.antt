@@ -59,10 +59,10 @@ loop-again c =
     )
 
 returns-4 : tie.Need-returns-4 Inv-loop μ-loop
-returns-4 c = sym (step.shorter _ _ _ (c .before .loop-test .left) (c .if4 .taken)) ∙ c .before .before .loop .inv .2
+returns-4 c = sym (step.shorter _ _ _ (c .before .loop-test .left) (omega (arith, c .if4 .taken))) ∙ c .before .before .loop .inv .2
 
 returns-5 : tie.Need-returns-5 Inv-loop μ-loop
-returns-5 c = sym (step.both-end _ _ _ (c .before .loop-test .left) (c .if4 .left)) ∙ c .before .before .loop .inv .2
+returns-5 c = sym (step.both-end _ _ _ (c .before .loop-test .left) (omega (arith, c .if4 .left))) ∙ c .before .before .loop .inv .2
 
 pub compare-rest-spec : {M : Type 1} → statement M
 compare-rest-spec =

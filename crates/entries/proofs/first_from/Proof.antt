@@ -1,5 +1,5 @@
 -- The loop: the records before low have lower tags, those from high on have not (Halved in Halves.antt).
-use Prim.Native.Nat.{_+_, _-_, _/_, _≤_, _<_}
+use Prim.Native.Nat.{_+_, _-_, _≤_, _<_}
 use native.Mathlib.Omega.{arith}
 use lib.ListN.{length, getD}
 use denote.Ref.{now}
@@ -20,32 +20,28 @@ abbrev μ-loop : tie.MeasureT-loop
 loop-holds : tie.Need-loop-holds Inv-loop μ-loop
 loop-holds c = halve-none (omega arith)
 
-sub-i : tie.Need-sub-i Inv-loop μ-loop
-sub-i c = search needs
-
-add-i : tie.Need-add-i Inv-loop μ-loop
-add-i c = search needs
+middle-requires : tie.Need-middle-requires Inv-loop μ-loop
+middle-requires c κs = search needs
 
 cast-if1 : tie.Need-cast-if1 Inv-loop μ-loop
 cast-if1 c = search needs
 
 -- the record in the middle has a number, and its place is in the image
-numbered : (c : tie.In-loop Inv-loop μ-loop)
-    → c .before .loop .low + (c .before .loop .high - c .before .loop .low) / 2 < c .before .before .args .count
-numbered c = omega (arith, c .before .loop .inv .ends, c .loop-test .taken)
+numbered : (c : tie.After-middle Inv-loop μ-loop) → c .middle .result < c .before .before .before .before .args .count
+numbered c = omega (arith, c .middle .ensures, c .before .before .loop .inv .ends)
 
-stands : (c : tie.In-loop Inv-loop μ-loop)
-    → getD (now (c .before .before .args .places)) (c .before .loop .low + (c .before .loop .high - c .before .loop .low) / 2) 0 + 3 ≤ length (now (c .before .before .args .image))
-stands c = place-inside _ _ _ (c .before .before .pre) _ (numbered c)
+stands : (c : tie.After-middle Inv-loop μ-loop)
+    → let a = c .before .before .before .before .args in getD (now (a .places)) (c .middle .result) 0 + 3 ≤ length (now (a .image))
+stands c = place-inside _ _ _ (c .before .before .before .before .pre) _ (numbered c)
 
 mul-if1 : tie.Need-mul-if1 Inv-loop μ-loop
 mul-if1 c = omega (arith, numbered c)
 
 element-copy-out-if1 : tie.Need-element-copy-out-if1 Inv-loop μ-loop
-element-copy-out-if1 c = omega (arith, numbered c, few-records _ _ (c .before .before .pre .sound))
+element-copy-out-if1 c = omega (arith, numbered c, few-records _ _ (c .before .before .before .before .pre .sound))
 
 cast-if1-2 : tie.Need-cast-if1-2 Inv-loop μ-loop
-cast-if1-2 c = omega (arith, stands (c .before), few-bytes _ _ (c .before .before .before .pre .sound))
+cast-if1-2 c = omega (arith, stands (c .before), few-bytes _ _ (c .before .before .before .before .before .pre .sound))
 
 shared-slice-read-if1 : tie.Need-shared-slice-read-if1 Inv-loop μ-loop
 shared-slice-read-if1 c = omega (arith, stands (c .before .before))
@@ -54,22 +50,24 @@ add-low : tie.Need-add-low Inv-loop μ-loop
 add-low c = search needs
 
 loop-less : tie.Need-loop-less Inv-loop μ-loop
-loop-less c = search needs
+loop-less c = omega (arith, c .before .before .before .middle .ensures)
 
 loop-again : tie.Need-loop-again Inv-loop μ-loop
 loop-again c =
     let here = c .before .before .before in
-    halve-up (tags-sorted _ _ _ (here .before .before .pre .sound)) _ _ _ (here .before .loop .inv)
-    (omega arith) (omega (arith, here .loop-test .taken)) (omega (arith, tag-here _ _ _ (here .before .before .pre) _ (numbered here), c .if1 .taken))
+    let start = here .before .before .before .before in
+    halve-up (tags-sorted _ _ _ (start .pre .sound)) _ _ _ (here .before .before .loop .inv) (here .middle .ensures .0) (here .middle .ensures .1)
+    (omega (arith, tag-here _ _ _ (start .pre) _ (numbered here), c .if1 .taken))
 
 loop-less-2 : tie.Need-loop-less-2 Inv-loop μ-loop
-loop-less-2 c = search needs
+loop-less-2 c = omega (arith, c .before .before .before .middle .ensures)
 
 loop-again-2 : tie.Need-loop-again-2 Inv-loop μ-loop
 loop-again-2 c =
     let here = c .before .before .before in
-    halve-down (tags-sorted _ _ _ (here .before .before .pre .sound)) _ _ _ (here .before .loop .inv)
-    (omega arith) (omega (arith, here .loop-test .taken)) (omega (arith, tag-here _ _ _ (here .before .before .pre) _ (numbered here), c .if1 .left))
+    let start = here .before .before .before .before in
+    halve-down (tags-sorted _ _ _ (start .pre .sound)) _ _ _ (here .before .before .loop .inv) (here .middle .ensures .0) (here .middle .ensures .1)
+    (omega (arith, tag-here _ _ _ (start .pre) _ (numbered here), c .if1 .left))
 
 returns : tie.Need-returns Inv-loop μ-loop
 returns c = first-found (c .before .loop .inv) (c .loop-test .left)
@@ -81,8 +79,7 @@ first-from-spec =
     Inv-loop
     μ-loop
     loop-holds
-    sub-i
-    add-i
+    middle-requires
     cast-if1
     mul-if1
     element-copy-out-if1

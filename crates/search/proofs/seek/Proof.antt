@@ -1,12 +1,12 @@
 -- The loop: the records before low come before what is wanted, those from high on behind it, and fewer than 2 ^ (13 - steps) are left.
-use Prim.Native.Nat.{_+_, _-_, _/_, _<_}
+use Prim.Native.Nat.{ℕ, _+_, _-_, _/_, _≤_, _<_}
 use mathlib.Core.Path.{_≡_, sym, _∙_}
 use native.Mathlib.Omega.{arith}
 use denote.Ref.{now}
 use borrow.Author.Needs.{needs}
 use Rattle.address.proofs.Order.{told-first, told-second, told-equal}
 use Rattle.image.specs.Index.{Selected}
-use Rattle.entries.proofs.Halves.{Halved, halve-none, halve-up, halve-down}
+use Rattle.entries.proofs.Halves.{Sorted, Halved, halve-none, halve-up, halve-down}
 use Rattle.search.proofs.Picks.{few, in-image, text-inside}
 use Rattle.search.proofs.Seeking.{Before, Behind, keys-sorted, none-found, one-found, Left, at-start, step-allowed, step-taken}
 use Rattle.search.proofs.seek.Statement.{statement}
@@ -27,59 +27,68 @@ loop-holds c =
     let chosen = c .before .before .before .pre .0 in
     (halve-none (chosen .run-of .forward), at-start _ _ (few chosen))
 
-chosen :
-    (c : tie.In-loop Inv-loop μ-loop)
-    → let a = c .before .before .before .before .before .args in Selected (now (a .image)) (now (a .places)) (a .run)
-chosen c = c .before .before .before .before .before .pre .0
-
 -- the record in the middle is one of the run
-middle :
-    (c : tie.In-loop Inv-loop μ-loop)
-    → c .before .loop .low + (c .before .loop .high - c .before .loop .low) / 2 < c .before .before .before .before .before .args .run .until
-middle c = omega (arith, c .before .loop .inv .0 .ends, c .loop-test .taken)
+chosen :
+    (c : tie.After-middle Inv-loop μ-loop)
+    → let a = c .before .before .before .before .before .before .args in Selected (now (a .image)) (now (a .places)) (a .run)
+chosen c = c .before .before .before .before .before .before .pre .0
 
-sub-i : tie.Need-sub-i Inv-loop μ-loop
-sub-i c = search needs
+in-run : (c : tie.After-middle Inv-loop μ-loop) → c .middle .result < c .before .before .before .before .before .before .args .run .until
+in-run c = omega (arith, c .middle .ensures, c .before .before .loop .inv .0 .ends)
 
-add-i : tie.Need-add-i Inv-loop μ-loop
-add-i c = search needs
+order :
+    (c : tie.After-middle Inv-loop μ-loop)
+    → let a = c .before .before .before .before .before .before .args in
+    let which = c .before .before .before .which-of .result in
+    Sorted (Before (now (a .image)) (now (a .places)) which (now (a .wanted))) (Behind (now (a .image)) (now (a .places)) which (now (a .wanted))) (a .run .from) (a .run .until)
+order c =
+    let start = c .before .before .before .before .before .before in
+    keys-sorted (start .pre .0) (start .pre .1) _ (c .before .before .before .which-of .ensures) (now (start .args .wanted))
+
+step :
+    (c : tie.After-middle Inv-loop μ-loop) (later left : ℕ)
+    → let walk = c .before .before .loop in later ≡ walk .steps + 1 → left ≤ (walk .high - walk .low) / 2 → Left later left
+step c = let walk = c .before .before .loop in step-taken (walk .steps) (walk .low) (walk .high) (c .before .loop-test .taken) (walk .inv .1)
+
+middle-requires : tie.Need-middle-requires Inv-loop μ-loop
+middle-requires c κs = search needs
 
 cast-at : tie.Need-cast-at Inv-loop μ-loop
 cast-at c = search needs
 
 mul-at : tie.Need-mul-at Inv-loop μ-loop
-mul-at c = omega (arith, middle c)
+mul-at c = omega (arith, few (chosen c), in-run c)
 
 element-copy-out-at : tie.Need-element-copy-out-at Inv-loop μ-loop
-element-copy-out-at c = omega (arith, few (chosen c), middle c)
+element-copy-out-at c = omega (arith, few (chosen c), in-run c)
 
 cast-at-2 : tie.Need-cast-at-2 Inv-loop μ-loop
-cast-at-2 c = omega (arith, in-image (chosen (c .before)) _ (middle (c .before)))
+cast-at-2 c = omega (arith, in-image (chosen (c .before)) _ (in-run (c .before)))
 
 compare-at-requires : tie.Need-compare-at-requires Inv-loop μ-loop
 compare-at-requires c κs =
     let here = c .before .before in
-    let walk = here .before .loop in
-    (text-inside (chosen here) _ (middle here) _, step-allowed (walk .steps) (walk .low) (walk .high) (here .loop-test .taken) (walk .inv .1))
+    let walk = here .before .before .loop in
+    (text-inside (chosen here) _ (in-run here) _, step-allowed (walk .steps) (walk .low) (walk .high) (here .before .loop-test .taken) (walk .inv .1))
 
 enum-told : tie.Need-enum-told Inv-loop μ-loop
 enum-told c = search needs
 
 add-low : tie.Need-add-low Inv-loop μ-loop
-add-low c = search needs
+add-low c =
+    let here = c .before .before .before .before .before in
+    omega (arith, few (chosen here), in-run here, here .before .before .loop .inv .0 .ends)
 
 loop-less : tie.Need-loop-less Inv-loop μ-loop
-loop-less c = search needs
+loop-less c = omega (arith, c .before .before .before .before .before .middle .ensures)
 
 loop-again : tie.Need-loop-again Inv-loop μ-loop
 loop-again c =
     let told = c .before .before in
-    let here = told .before .before .before in
-    let start = here .before .before .before .before .before in
-    let walk = here .before .loop in
-    let order = keys-sorted (start .pre .0) (start .pre .1) _ (here .before .before .which-of .ensures) (now (start .args .wanted)) in (
-      halve-up order _ _ _ (walk .inv .0) (omega arith) (omega arith) (told-second _ _ (sym (told .compare-at .ensures .0) ∙ c .enum-told .given .1)),
-      step-taken (walk .steps) (walk .low) (walk .high) (here .loop-test .taken) (walk .inv .1) _ _ (told .compare-at .ensures .1) (omega arith),
+    let here = told .before .before .before in (
+      halve-up (order here) _ _ _ (here .before .before .loop .inv .0) (here .middle .ensures .0) (here .middle .ensures .1)
+          (told-second _ _ (sym (told .compare-at .ensures .0) ∙ c .enum-told .given .1)),
+      step here _ _ (told .compare-at .ensures .1) (omega (arith, here .middle .ensures)),
     )
 
 enum-told-2 : tie.Need-enum-told-2 Inv-loop μ-loop
@@ -89,30 +98,27 @@ returns : tie.Need-returns Inv-loop μ-loop
 returns c =
     let told = c .before .before in
     let here = told .before .before .before in
-    let start = here .before .before .before .before .before in
-    let walk = here .before .loop in
+    let start = here .before .before .before .before .before .before in
     record {
-      bounded = step-taken (walk .steps) (walk .low) (walk .high) (here .loop-test .taken) (walk .inv .1) _ 0 (told .compare-at .ensures .1) (omega arith) .bounded;
+      bounded = omega (arith, step here _ 0 (told .compare-at .ensures .1) (omega arith) .bounded);
       answer =
-          one-found (start .pre .0) (start .pre .1) _ (here .before .before .which-of .ensures) (now (start .args .wanted)) _ (omega (arith, walk .inv .0 .starts)) (middle here)
-          (told-equal _ _ (sym (told .compare-at .ensures .0) ∙ c .enum-told2 .given .1));
+          one-found (start .pre .0) (start .pre .1) _ (here .before .before .before .which-of .ensures) (now (start .args .wanted)) _
+          (omega (arith, here .middle .ensures, here .before .before .loop .inv .0 .starts)) (omega (arith, here .middle .ensures, in-run here)) (told-equal _ _ (sym (told .compare-at .ensures .0) ∙ c .enum-told2 .given .1));
     }
 
 enum-told-3 : tie.Need-enum-told-3 Inv-loop μ-loop
 enum-told-3 c = search needs
 
 loop-less-2 : tie.Need-loop-less-2 Inv-loop μ-loop
-loop-less-2 c = search needs
+loop-less-2 c = omega (arith, c .before .before .before .before .before .middle .ensures)
 
 loop-again-2 : tie.Need-loop-again-2 Inv-loop μ-loop
 loop-again-2 c =
     let told = c .before .before in
-    let here = told .before .before .before in
-    let start = here .before .before .before .before .before in
-    let walk = here .before .loop in
-    let order = keys-sorted (start .pre .0) (start .pre .1) _ (here .before .before .which-of .ensures) (now (start .args .wanted)) in (
-      halve-down order _ _ _ (walk .inv .0) (omega arith) (omega arith) (told-first _ _ (sym (told .compare-at .ensures .0) ∙ c .enum-told3 .given .1)),
-      step-taken (walk .steps) (walk .low) (walk .high) (here .loop-test .taken) (walk .inv .1) _ _ (told .compare-at .ensures .1) (omega arith),
+    let here = told .before .before .before in (
+      halve-down (order here) _ _ _ (here .before .before .loop .inv .0) (here .middle .ensures .0) (here .middle .ensures .1)
+          (told-first _ _ (sym (told .compare-at .ensures .0) ∙ c .enum-told3 .given .1)),
+      step here _ _ (told .compare-at .ensures .1) (omega (arith, here .middle .ensures)),
     )
 
 returns-2 : tie.Need-returns-2 Inv-loop μ-loop
@@ -120,7 +126,7 @@ returns-2 c =
     let start = c .before .before .before .before .before in
     let walk = c .before .loop in
     record {
-      bounded = walk .inv .1 .bounded;
+      bounded = omega (arith, walk .inv .1 .bounded);
       answer =
           none-found (start .pre .0) (start .pre .1) _ (c .before .before .which-of .ensures) (now (start .args .wanted)) (walk .low) (walk .high) (walk .inv .0) (c .loop-test .left);
     }
@@ -133,8 +139,7 @@ seek-spec =
     μ-loop
     which-of-requires
     loop-holds
-    sub-i
-    add-i
+    middle-requires
     cast-at
     mul-at
     element-copy-out-at
