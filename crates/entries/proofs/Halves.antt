@@ -9,19 +9,22 @@ pub record Sorted (before behind : ℕ → Type 0) (from until : ℕ) : Type 0 w
   pub down : (i j : ℕ) → from ≤ i → i ≤ j → j < until → before j → before i
   pub up : (i j : ℕ) → from ≤ i → i ≤ j → j < until → behind i → behind j
 
+-- what each number hands on to the next
+pub carried : (p : ℕ → Type 0) (i j : ℕ) → i ≤ j → p i → ((m : ℕ) → i ≤ m → m < j → p m → p (m + 1)) → p j
+carried p i j h x on = by-distance (j - i) i (omega arith) x on
+  where
+    by-distance : (n i : ℕ) → i + n ≡ j → p i → ((m : ℕ) → i ≤ m → m < j → p m → p (m + 1)) → p j
+    by-distance zero i e x on = let f : i ≡ j = omega arith in subst p f x
+    by-distance (suc n) i e x on = by-distance n (i + 1) (omega arith) (on i (omega arith) (omega arith) x) (λ m h k. on m (omega arith) k)
+
 -- neighbours are enough
-module _ {before behind : ℕ → Type 0} {from until : ℕ} (down : (i : ℕ) → from ≤ i → i + 1 < until → before (i + 1) → before i)
-    (up : (i : ℕ) → from ≤ i → i + 1 < until → behind i → behind (i + 1)) where
-  down-by : (n i j : ℕ) → i + n ≡ j → from ≤ i → j < until → before j → before i
-  down-by zero i j e h k b = let f : j ≡ i = omega arith in subst before f b
-  down-by (suc n) i j e h k b = down i h (omega arith) (down-by n (i + 1) j (omega arith) (omega arith) k b)
-
-  up-by : (n i j : ℕ) → i + n ≡ j → from ≤ i → j < until → behind i → behind j
-  up-by zero i j e h k b = let f : i ≡ j = omega arith in subst behind f b
-  up-by (suc n) i j e h k b = up-by n (i + 1) j (omega arith) (omega arith) k (up i h (omega arith) b)
-
-  pub by-neighbours : Sorted before behind from until
-  by-neighbours = record { down = λ i j h k l b. down-by (j - i) i j (omega arith) h l b; up = λ i j h k l b. up-by (j - i) i j (omega arith) h l b }
+pub by-neighbours :
+    {before behind : ℕ → Type 0} {from until : ℕ} → ((i : ℕ) → from ≤ i → i + 1 < until → before (i + 1) → before i)
+    → ((i : ℕ) → from ≤ i → i + 1 < until → behind i → behind (i + 1)) → Sorted before behind from until
+by-neighbours {before} {behind} down up = record {
+  down = λ i j h k l b. carried (λ (m : ℕ). before m → before i) i j k (λ x. x) (λ m p q f x. f (down m (omega arith) (omega arith) x)) b;
+  up = λ i j h k l b. carried behind i j k b (λ m p q x. up m (omega arith) (omega arith) x);
+}
 
 -- the elements before low come before what is sought, those from high on behind it
 pub record Halved (before behind : ℕ → Type 0) (from until low high : ℕ) : Type 0 where

@@ -1,5 +1,5 @@
 -- A walk over the records of a run: the test of one record, and what is still to be found.
-use Prim.Native.Nat.{ℕ, zero, suc, _+_, _-_, _≤_, _<_}
+use Prim.Native.Nat.{ℕ, _+_, _≤_, _<_}
 use mathlib.Core.Bool.{Bool, true, false, _&&_}
 use mathlib.Core.Path.{_≡_, refl, sym, ap, _∙_}
 use mathlib.Core.List.{List, [], _++_, append-nil}
@@ -20,6 +20,7 @@ use Rattle.image.specs.Index.{tagOf, Standing, Selected}
 use Rattle.image.specs.declared.Run.{Run}
 use Rattle.image.specs.declared.Which.{Which}
 use Rattle.image.proofs.Soundness.{counted, few-records, few-bytes}
+use Rattle.entries.proofs.Halves.{carried}
 use Rattle.entries.proofs.Standing.{standing-of, text-in-image, place-inside}
 use Rattle.listing.specs.Listing.{Reported}
 use Rattle.listing.specs.declared.Listed.{Listed}
@@ -74,27 +75,26 @@ module _ {s places : List ℕ} {run : Run} (a : Selected s places run) (which : 
       let t = a .run-of .inside i k h in
       next i x v (rw (← text-here a i h which, ← x .tag, le-leb (run .first) (tagOf s i) (t .0), le-leb (tagOf s i) (run .last) (t .1)) (sym e))
 
-  -- records of other tags are not picked
-  passed :
-      (n i k : ℕ) → i + n ≡ k → k ≤ a .count → ((j : ℕ) → i ≤ j → j < k → within (run .first) (run .last) (tagOf s j) ≡ false) → from i ≡ from k
-  passed zero i k e h others = let f : i ≡ k = omega arith in ap from f
-  passed (suc n) i k e h others =
-      let x = standing-of s (a .count) (a .indexed .sound) i (omega arith) in
-      let t : within (run .first) (run .last) (x .r .tag) ≡ false = rw (← x .tag) (others i (omega arith) (omega arith)) in
-      next i x false (rw t) ∙ passed n (i + 1) k (omega arith) h (λ j l. others j (omega arith))
+  pub passed : (i k : ℕ) → i ≤ k → ((j : ℕ) → i ≤ j → j < k → from j ≡ from (j + 1)) → from i ≡ from k
+  passed i k h same = carried (λ (j : ℕ). from i ≡ from j) i k h refl (λ j l m e. e ∙ same j l m)
+
+  -- a record of another tag is not picked
+  other : (j : ℕ) → j < a .count → within (run .first) (run .last) (tagOf s j) ≡ false → from j ≡ from (j + 1)
+  other j h e =
+      let x = standing-of s (a .count) (a .indexed .sound) j h in
+      let t : within (run .first) (run .last) (x .r .tag) ≡ false = rw (← x .tag) e in
+      next j x false (rw t)
 
   pub before-run : from (run .from) ≡ from 0
   before-run =
-      sym
-      (passed (run .from) 0 (run .from) (omega arith) (omega (arith, a .run-of .forward, a .run-of .ends))
-      (λ j l m. rw (lt-leb (run .first) (tagOf s j) (a .run-of .before j m))))
+      let h = a .run-of .forward in
+      let k = a .run-of .ends in
+      sym (passed 0 (run .from) (omega arith) (λ j l m. other j (omega arith) (rw (lt-leb (run .first) (tagOf s j) (a .run-of .before j m)))))
 
   pub behind-run : from (run .until) ≡ []
   behind-run =
-      let h = a .run-of .ends in
       let c = counted (imageOf s) (a .count) (a .indexed .sound) in
-      passed (a .count - run .until) (run .until) (a .count) (omega arith) (omega arith)
-      (λ j l m. outside (leb (run .first) (tagOf s j)) (lt-leb (tagOf s j) (run .last) (a .run-of .behind j l m)))
+      passed (run .until) (a .count) (a .run-of .ends) (λ j l m. other j m (outside (leb (run .first) (tagOf s j)) (lt-leb (tagOf s j) (run .last) (a .run-of .behind j l m))))
       ∙ rw (drop-of-length-le (recordsOf (imageOf s)) {i = a .count} (omega arith))
     where
       outside : (u : Bool) {v : Bool} → v ≡ false → (u && v) ≡ false

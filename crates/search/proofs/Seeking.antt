@@ -1,5 +1,5 @@
 -- The search by halves in a run that is sorted by the text that is sought: what the steps leave, and what is found in the end.
-use Prim.Native.Nat.{ℕ, zero, suc, _+_, _-_, _^_, _/_, _≤_, _<_}
+use Prim.Native.Nat.{ℕ, _+_, _-_, _^_, _/_, _≤_, _<_}
 use mathlib.Core.Bool.{Bool, true, false}
 use mathlib.Core.Path.{_≡_, refl, sym, ap, _∙_}
 use mathlib.Core.List.{List, [], _∷_}
@@ -28,7 +28,7 @@ use Rattle.entries.proofs.Tags.{record-follows}
 use Rattle.query.specs.Query.{source}
 use Rattle.search.specs.Search.{numbersFrom, whichOf, fieldOf, isOf, isCalled}
 use Rattle.search.specs.Seeking.{SortedBy, domains, nameservers, entities}
-use Rattle.search.proofs.Picks.{stands, text-here, foundFrom, turn, before-run, behind-run}
+use Rattle.search.proofs.Picks.{stands, text-here, foundFrom, turn, passed, before-run, behind-run}
 
 -- the text of record i, where the index says that it stands
 abbrev pub keyAt : List ℕ → List ℕ → Which → ℕ → List ℕ
@@ -95,18 +95,15 @@ module _ {s places : List ℕ} {run : Run} (a : Selected s places run) {text : T
     behind-unlike : (i : ℕ) → Behind s places which wanted i → alike false wanted (key i) ≡ false
     behind-unlike i h = alike-others wanted (key i) (λ e. not-after-itself (key i) wanted h (sym e))
 
-    unlike : (n i j : ℕ) → i + n ≡ j → run .from ≤ i → j ≤ run .until → ((m : ℕ) → i ≤ m → m < j → alike false wanted (key m) ≡ false) → from i ≡ from j
-    unlike zero i j e h k others = let f : i ≡ j = omega arith in ap from f
-    unlike (suc n) i j e h k others =
-        step i h (omega arith) (others i (omega arith) (omega arith))
-        ∙ unlike n (i + 1) j (omega arith) (omega arith) k (λ m p. others m (omega arith))
+    unlike : (i j : ℕ) → run .from ≤ i → i ≤ j → j ≤ run .until → ((m : ℕ) → i ≤ m → m < j → alike false wanted (key m) ≡ false) → from i ≡ from j
+    unlike i j h k l others = passed a which false Exact wanted i j k (λ m p q. step m (omega arith) (omega arith) (others m p q))
 
     -- every record of the run comes before or behind
     pub none-found : (low high : ℕ) → Halved (Before s places which wanted) (Behind s places which wanted) (run .from) (run .until) low high → high ≤ low → [] ≡ reading
     none-found low high w h =
         let f = a .run-of .forward in
         sym (sym (before-run a which false Exact wanted)
-        ∙ unlike (run .until - run .from) (run .from) (run .until) (omega arith) (omega arith) (omega arith) (λ m p q. by-place m p q (leb low m) refl)
+        ∙ unlike (run .from) (run .until) (omega arith) (omega arith) (omega arith) (λ m p q. by-place m p q (leb low m) refl)
         ∙ behind-run a which false Exact wanted)
         ∙ is-reading
       where
@@ -127,10 +124,10 @@ module _ {s places : List ℕ} {run : Run} (a : Selected s places run) {text : T
       pub one-found : i ∷ [] ≡ reading
       one-found =
           sym (sym (before-run a which false Exact wanted)
-          ∙ unlike (i - run .from) (run .from) i (omega arith) (omega arith) (omega arith) earlier
+          ∙ unlike (run .from) i (omega arith) h (omega arith) earlier
           ∙ step i h k {v = true} (rw e (alike-itself wanted))
           ∙ ap (λ (l : List ℕ). i ∷ l)
-          (unlike (run .until - (i + 1)) (i + 1) (run .until) (omega arith) (omega arith) (omega arith) later ∙ behind-run a which false Exact wanted))
+          (unlike (i + 1) (run .until) (omega arith) (omega arith) (omega arith) later ∙ behind-run a which false Exact wanted))
           ∙ is-reading
 
 -- How many records are left after so many steps
