@@ -11,7 +11,6 @@ use lib.ListN.{length, drop, getD, drop-of-length-le}
 use Rattle.address.specs.Lists.{within, keep}
 use Rattle.pattern.specs.Pattern.{matchesForm}
 use Rattle.pattern.specs.declared.Form.{Form}
-use Rattle.records.specs.Record.{Record}
 use Rattle.records.specs.Place.{bytesOf, Inside}
 use Rattle.image.specs.Image.{imageOf}
 use Rattle.image.specs.Part.{recordsOf, textOf}
@@ -22,17 +21,8 @@ use Rattle.image.specs.declared.Which.{Which}
 use Rattle.image.proofs.Soundness.{counted, few-records, few-bytes}
 use Rattle.entries.proofs.Halves.{carried}
 use Rattle.entries.proofs.Standing.{standing-of, text-in-image, place-inside}
-use Rattle.listing.specs.Listing.{Reported}
-use Rattle.listing.specs.declared.Listed.{Listed}
 use Rattle.search.specs.Search.{numbersFrom}
 use Rattle.search.specs.Picks.{picksRecord}
-
--- the part and the folding of case, as other functions name them
-pub picked-as :
-    (first last : ℕ) (form : Form) (pattern : List ℕ) (records : List Record) {list after : List ℕ} {r : Listed} {u v : Bool} → u ≡ v → {w x : Which} → w ≡ x
-    → Reported (numbersFrom (picksRecord first last w u form pattern) 0 records) list after r
-    → Reported (numbersFrom (picksRecord first last x v form pattern) 0 records) list after r
-picked-as first last form pattern records e f p = rw (← e, ← f) p
 
 -- a record of the run, where the index says that it stands
 module _ {s places : List ℕ} {run : Run} (a : Selected s places run) where

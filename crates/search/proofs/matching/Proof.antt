@@ -1,53 +1,62 @@
--- What was collected is reported. Case is folded as the text asks.
+-- Each text says which part of a record it is, and whether case is folded.
 use borrow.Author.Needs.{needs}
-use denote.Ref.{now}
-use Rattle.image.specs.Image.{imageOf}
-use Rattle.image.specs.Part.{recordsOf}
-use Rattle.listing.proofs.Reports.{in-hits, as-many, few-reported, reported}
+use Rattle.pattern.specs.Pattern.{foldsCase}
 use Rattle.search.specs.Search.{fieldOf, isMatch, isOf}
-use Rattle.search.proofs.Picks.{picked-as}
 use Rattle.search.proofs.matching.Statement.{statement}
 use Rattle.search.proofs.matching.Tie as tie
 
-which-of-requires : tie.Need-which-of-requires
-which-of-requires c κs = search needs
+enum-told : tie.Need-enum-told
+enum-told c = search needs
 
-folds-case-requires : tie.Need-folds-case-requires
-folds-case-requires c κs = search needs
+list-picked-requires : tie.Need-list-picked-requires
+list-picked-requires c κs = search needs
 
-collect-requires : tie.Need-collect-requires
-collect-requires c κs = search needs
+enum-told-2 : tie.Need-enum-told-2
+enum-told-2 c = search needs
 
-array-share-prefix-hits : tie.Need-array-share-prefix-hits
-array-share-prefix-hits c = in-hits (c .collect .ensures)
+list-picked-requires-2 : tie.Need-list-picked-requires-2
+list-picked-requires-2 c κs = search needs
 
-slice-aggregate-report : tie.Need-slice-aggregate-report
-slice-aggregate-report c = as-many (c .before .collect .ensures)
+enum-told-3 : tie.Need-enum-told-3
+enum-told-3 c = search needs
 
-report-requires : tie.Need-report-requires
-report-requires c κs = few-reported (c .before .before .collect .ensures)
+list-picked-requires-3 : tie.Need-list-picked-requires-3
+list-picked-requires-3 c κs = search needs
 
 same-length : tie.Need-same-length
 same-length c = search needs
 
 returns : tie.Need-returns
-unfolding isMatch isOf fieldOf
-returns c =
-    let found = c .before .before .before .before .before in
-    let fold = found .before .before in
-    let a = fold .before .before .before .before .before .args in
-    picked-as (a .run .first) (a .run .last) (a .form) (now (a .pattern)) (recordsOf (imageOf (now (a .image)))) (fold .folds-case .ensures) (fold .before .which-of .ensures)
-    (reported (found .collect .ensures) (c .before .before .report .ensures))
+unfolding isMatch isOf fieldOf foldsCase
+returns c = rw (c .before .before .before .before .enum-told .given .1) (c .before .before .list-picked .ensures)
+
+same-length-2 : tie.Need-same-length-2
+same-length-2 c = search needs
+
+returns-2 : tie.Need-returns-2
+unfolding isMatch isOf fieldOf foldsCase
+returns-2 c = rw (c .before .before .before .before .enum-told2 .given .1) (c .before .before .list-picked2 .ensures)
+
+same-length-3 : tie.Need-same-length-3
+same-length-3 c = search needs
+
+returns-3 : tie.Need-returns-3
+unfolding isMatch isOf fieldOf foldsCase
+returns-3 c = rw (c .before .before .before .before .enum-told3 .given .1) (c .before .before .list-picked3 .ensures)
 
 pub matching-spec : {M : Type 1} → statement M
 matching-spec =
     tie.close
     (tie.spec
-    which-of-requires
-    folds-case-requires
-    collect-requires
-    array-share-prefix-hits
-    slice-aggregate-report
-    report-requires
+    enum-told
+    list-picked-requires
+    enum-told-2
+    list-picked-requires-2
+    enum-told-3
+    list-picked-requires-3
     same-length
-    returns)
+    returns
+    same-length-2
+    returns-2
+    same-length-3
+    returns-3)
