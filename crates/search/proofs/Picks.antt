@@ -9,7 +9,8 @@ use borrow.Author.Tests.{lt-leb, le-leb}
 use lib.Dec.{leb}
 use lib.ListN.{length, drop, getD, drop-of-length-le}
 use Rattle.address.specs.Lists.{within, keep}
-use Rattle.pattern.specs.Pattern.{matchesForm}
+use Rattle.name.specs.declared.Text.{Text}
+use Rattle.pattern.specs.Pattern.{matchesForm, foldsCase}
 use Rattle.pattern.specs.declared.Form.{Form}
 use Rattle.records.specs.Place.{bytesOf, Inside}
 use Rattle.image.specs.Image.{imageOf}
@@ -21,8 +22,19 @@ use Rattle.image.specs.declared.Which.{Which}
 use Rattle.image.proofs.Soundness.{counted, few-records, few-bytes}
 use Rattle.entries.proofs.Halves.{carried}
 use Rattle.entries.proofs.Standing.{standing-of, text-in-image, place-inside}
-use Rattle.search.specs.Search.{numbersFrom}
+use Rattle.listing.specs.Listing.{Reported}
+use Rattle.listing.specs.declared.Listed.{Listed}
+use Rattle.query.specs.Query.{source}
+use Rattle.search.specs.Search.{numbersFrom, whichOf, fieldOf, isOf, isMatch}
 use Rattle.search.specs.Picks.{picksRecord}
+
+-- a search by pattern: the part that the text is, and case folded as it asks
+pub matched :
+    (run : Run) (text : Text) (form : Form) (pattern s : List ℕ) {fold : Bool} → fold ≡ foldsCase text → {which : Which} → which ≡ whichOf text → {list after : List ℕ} {r : Listed}
+    → Reported (numbersFrom (picksRecord (run .first) (run .last) which fold form pattern) 0 (recordsOf (imageOf s))) list after r
+    → Reported (numbersFrom (isMatch (source (run .first) (run .last) text) form pattern) 0 (recordsOf (imageOf s))) list after r
+unfolding isMatch isOf fieldOf
+matched run text form pattern s e f p = rw (e, f) at p
 
 -- a record of the run, where the index says that it stands
 module _ {s places : List ℕ} {run : Run} (a : Selected s places run) where
