@@ -4,7 +4,8 @@ use mathlib.Core.Bool.{true, false}
 use mathlib.Core.List.{List, [], _∷_}
 use Prim.Native.Nat.{ℕ, zero, suc, _+_, _*_, _/_, _%_, _<_, _≤_}
 use native.Mathlib.Omega.{arith}
-use native.Mathlib.Nat.{zero-mul, zero-add}
+use native.Mathlib.Decide.{decLt}
+use native.Mathlib.Nat.{zero-mul, zero-add, mul-le-mul-right}
 use lib.Dec.{leb}
 use lib.ListN.{length, getD}
 use Rattle.address.specs.Number.{valueFrom, atMost, Digits, Bytes, order}
@@ -39,7 +40,7 @@ four s at h b =
 
 -- two words, as digits to a base
 module _ (base : ℕ) where
-  pub pair-is : (h l : ℕ) → valueFrom base 0 (h ∷ l ∷ []) ≡ h * base + l
+  pair-is : (h l : ℕ) → valueFrom base 0 (h ∷ l ∷ []) ≡ h * base + l
   unfolding valueFrom
   pair-is h l = rw (zero-mul base, zero-add h)
 
@@ -57,17 +58,33 @@ module _ (base : ℕ) where
   one l q (suc i) k = absurd (omega (arith, k))
 
   module _ (h l g m : ℕ) (p : h < base) (q : l < base) (r : g < base) (s : m < base) where
-    compared : atMost (h ∷ l ∷ []) (g ∷ m ∷ []) ≡ leb (valueFrom base 0 (h ∷ l ∷ [])) (valueFrom base 0 (g ∷ m ∷ []))
-    compared = order base (h ∷ l ∷ []) (g ∷ m ∷ []) refl (two h l p q) (two g m r s)
+    compared : atMost (h ∷ l ∷ []) (g ∷ m ∷ []) ≡ leb (h * base + l) (g * base + m)
+    compared = order base (h ∷ l ∷ []) (g ∷ m ∷ []) refl (two h l p q) (two g m r s) ∙ rw (pair-is h l, pair-is g m)
 
-    pub high-below : h < g → true ≡ leb (valueFrom base 0 (h ∷ l ∷ [])) (valueFrom base 0 (g ∷ m ∷ []))
+    pub high-below : h < g → true ≡ leb (h * base + l) (g * base + m)
     high-below k = sym (step.below (h ∷ l ∷ []) (g ∷ m ∷ []) 0 (omega arith) (omega arith) k) ∙ compared
 
-    pub high-above : g < h → false ≡ leb (valueFrom base 0 (h ∷ l ∷ [])) (valueFrom base 0 (g ∷ m ∷ []))
+    pub high-above : g < h → false ≡ leb (h * base + l) (g * base + m)
     high-above k = sym (step.above (h ∷ l ∷ []) (g ∷ m ∷ []) 0 (omega arith) (omega arith) k) ∙ compared
 
-    pub high-same : h ≤ g → g ≤ h → leb l m ≡ leb (valueFrom base 0 (h ∷ l ∷ [])) (valueFrom base 0 (g ∷ m ∷ []))
+    pub high-same : h ≤ g → g ≤ h → leb l m ≡ leb (h * base + l) (g * base + m)
     high-same k j = sym low ∙ sym (step.onward (h ∷ l ∷ []) (g ∷ m ∷ []) 0 (omega arith) (omega arith) k j) ∙ compared
       where
         low : atMost (l ∷ []) (m ∷ []) ≡ leb l m
         low = order base (l ∷ []) (m ∷ []) refl (one l q) (one m s) ∙ rw (last-is l, last-is m)
+
+-- the number after that of two words, to a base that is one more than last
+module _ (last : ℕ) where
+  pub low-next : (h l : ℕ) → h * suc last + (l + 1) ≡ suc (h * suc last + l)
+  low-next h l = omega arith
+
+  pub high-next : (h l : ℕ) → l ≡ last → (h + 1) * suc last + 0 ≡ suc (h * suc last + l)
+  high-next h l e = rw e (omega arith)
+
+  -- there is one, where another number is greater
+  pub room : (h l g m : ℕ) → g ≤ last → m ≤ last → h * suc last + l < g * suc last + m → l ≡ last → h < last
+  room h l g m q r k e = go (decLt h last)
+    where
+      go : Dec (h < last) → h < last
+      go (yes x) = x
+      go (no x) = let f : g ≤ h = omega arith in absurd (omega (arith, rw e at k, mul-le-mul-right (suc last) f))

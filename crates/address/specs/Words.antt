@@ -1,7 +1,5 @@
 -- Serves contracts and proofs. Bytes read together, in words of four and eight.
-use mathlib.Core.List.{[], _∷_}
 use Prim.Native.Nat.{ℕ, _+_, _*_, _/_, _%_}
-use Rattle.address.specs.Number.{valueFrom}
 use Rattle.address.specs.declared.Words.{Words}
 
 -- four digits, the low one first
@@ -14,4 +12,4 @@ swap4Of x = x % 256 * 16777216 + x / 256 % 256 * 65536 + x / 65536 % 256 * 256 +
 
 -- the number of two words: two digits to the base 2 ^ 64
 abbrev pub numberOf : Words → ℕ
-numberOf w = valueFrom 18446744073709551616 0 (w .high ∷ w .low ∷ [])
+numberOf w = w .high * 18446744073709551616 + w .low

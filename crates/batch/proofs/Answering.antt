@@ -6,7 +6,7 @@ use mathlib.Core.List.{List, [], _∷_, _++_, append-assoc, append-nil}
 use native.Mathlib.Omega.{arith}
 use borrow.Author.Tests.{lt-ltb, le-ltb}
 use borrow.Rule.Slice.PartMut.{putMid}
-use lib.ListN.{length, take, drop, set, length-take}
+use lib.ListN.{length, take, drop, length-take}
 use lib.Seq.{drop-at, drop-drop}
 use Rattle.pieces.proofs.Pieces.{rest-is}
 use Rattle.path.specs.Places.{piecesFrom, part, PieceAt}
@@ -30,14 +30,6 @@ use Rattle.calls.proofs.Replies.{first-consistent, reported-all}
 use Rattle.batch.specs.Batch.{pathsOf, lines, answersIn, ofAnswers, batchIn}
 use Rattle.batch.specs.Answering.{Answering}
 use Rattle.batch.proofs.Batches.{length-line, stop, no-paths, onward, line-fits, few-answers}
-
--- four numbers at the front
-pub four-set : (s r k n : ℕ) (list : List ℕ) → 4 ≤ length list → set (set (set (set list 0 s) 1 r) 2 k) 3 n ≡ s ∷ r ∷ k ∷ n ∷ drop 4 list
-four-set s r k n [] h = absurd (omega arith)
-four-set s r k n (a ∷ []) h = absurd (omega arith)
-four-set s r k n (a ∷ b ∷ []) h = absurd (omega arith)
-four-set s r k n (a ∷ b ∷ c ∷ []) h = absurd (omega arith)
-four-set s r k n (a ∷ b ∷ c ∷ d ∷ list) h = refl
 
 -- One answer: its record numbers go to the rest of the list after four places, then its four numbers to these
 

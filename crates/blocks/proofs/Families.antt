@@ -20,8 +20,8 @@ use Rattle.blocks.specs.Blocks.{Block, blocksFrom, blocksOf}
 use Rattle.blocks.specs.Forest.{Registered}
 use Rattle.blocks.specs.Defects as Defects
 use Rattle.blocks.specs.Defects.{admissible, acceptedAfter, accepted}
-use Rattle.blocks.proofs.Geometry.{proper}
-use Rattle.blocks.proofs.Tests.{T-and, T-or, or-left, or-right, test, is-true, is-false, each}
+use Rattle.address.proofs.Geometry.{proper}
+use Rattle.address.proofs.Tests.{T-and, T-or, or-left, or-right, test, is-true, is-false, each}
 
 -- The earlier blocks of one family
 

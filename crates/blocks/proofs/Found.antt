@@ -13,7 +13,7 @@ use Rattle.blocks.specs.Defects.{accepted}
 use Rattle.blocks.specs.Relations.{isBest, select, smallest, largest, lookup, up, top, down, holdsSome, bottom}
 use Rattle.blocks.specs.Forest.{AllRegistered}
 use Rattle.blocks.specs.Found.{NoBlock, Smallest, Largest, NextInside, Found}
-use Rattle.blocks.proofs.Geometry.{Proper, Covers, Strictly, proper, covers-iff, inside-iff}
+use Rattle.address.proofs.Geometry.{Proper, Covers, Strictly, proper, covers-iff, inside-iff}
 use Rattle.blocks.proofs.Laminar.{Laminar, accepted-laminar, around-or-inside}
 use Rattle.blocks.proofs.Select.{Best, unless-better, Decides, Compares, inside-test, around-test, first-such, last-such}
 use Rattle.blocks.proofs.Answers.{Inside, covering, around, within, listed-iff, members, last-smallest, first-largest, answer-none}

@@ -11,8 +11,8 @@ use Rattle.address.specs.Lists.{_∈_, any}
 use Rattle.address.specs.Ranges.{Range, covers, overlaps, wellFormed, sortsAfter, crosses}
 use Rattle.blocks.specs.Blocks.{Block}
 use Rattle.blocks.specs.Defects.{inSequence, admissible, acceptedAfter, accepted}
-use Rattle.blocks.proofs.Tests.{T-and, T-or, test, each, yes-any}
-use Rattle.blocks.proofs.Geometry.{Proper, Covers, Strictly, proper, covers-iff, overlaps-iff}
+use Rattle.address.proofs.Tests.{T-and, T-or, test, each, yes-any}
+use Rattle.address.proofs.Geometry.{Proper, Covers, Strictly, proper, covers-iff, overlaps-iff}
 
 -- the sorting order, which is transitive
 pub record Follows (a b : Block) : Type 0 where

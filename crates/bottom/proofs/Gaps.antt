@@ -12,8 +12,8 @@ use lib.Seq.{drop-cons, drop-drop, getD-drop}
 use Rattle.address.specs.Ranges.{Range, strictlyInside}
 use Rattle.blocks.specs.Blocks.{Block}
 use Rattle.blocks.specs.Scans.{gapPass}
-use Rattle.blocks.proofs.Tests.{is-true, is-false}
-use Rattle.blocks.proofs.Geometry.{Proper, Strictly, inside-iff}
+use Rattle.address.proofs.Tests.{is-true, is-false}
+use Rattle.address.proofs.Geometry.{Proper, Strictly, inside-iff}
 use Rattle.blocks.proofs.Laminar.{Laminar, empty, cons, Before, around, left}
 use Rattle.bottom.specs.Links.{absent, nth, Link}
 use Rattle.bottom.proofs.Indices.{nth-proper, nth-before, begins-inside}

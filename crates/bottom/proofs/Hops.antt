@@ -12,7 +12,7 @@ use lib.Seq.{getD-set-same, getD-set-other}
 use Rattle.address.specs.Positions.{numberIn}
 use Rattle.records.specs.Record.{widthOf}
 use Rattle.blocks.specs.Blocks.{Block}
-use Rattle.blocks.proofs.Geometry.{Strictly}
+use Rattle.address.proofs.Geometry.{Strictly}
 use Rattle.blocks.proofs.Laminar.{Laminar, accepted-laminar}
 use Rattle.scans.specs.Standing.{blocksIn}
 use Rattle.bottom.specs.Links.{nth, Link, Linked, Gathered}

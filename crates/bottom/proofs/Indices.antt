@@ -7,7 +7,7 @@ use native.Mathlib.Decide.{decLt}
 use lib.ListN.{length}
 use Rattle.address.specs.Lists.{_∈_}
 use Rattle.blocks.specs.Blocks.{Block}
-use Rattle.blocks.proofs.Geometry.{Proper, Strictly}
+use Rattle.address.proofs.Geometry.{Proper, Strictly}
 use Rattle.blocks.proofs.Laminar.{Laminar, empty, cons, Before, around, left, is-proper}
 use Rattle.bottom.specs.Links.{nth}
 

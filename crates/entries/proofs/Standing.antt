@@ -8,10 +8,11 @@ use native.Mathlib.Nat.{le-trans}
 use lib.ListN.{length, take, drop, getD}
 use lib.Seq.{slice}
 use Rattle.address.specs.Address.{numbers, rangeAt, number-at}
+use Rattle.address.specs.Ranges.{rangeFrom}
 use Rattle.fields.specs.Heads.{field-tag, field-inside}
 use Rattle.fields.specs.declared.Field.the-variants.{Whole}
 use Rattle.fields.specs.Slices.{take-slice, drop-slice, part-slice}
-use Rattle.records.specs.Record.{Record, isBlock, widthOf, rangeFrom}
+use Rattle.records.specs.Record.{Record, isBlock, widthOf}
 use Rattle.records.specs.Place.{bytesOf, Inside}
 use Rattle.records.proofs.Shapes.{a-block}
 use Rattle.records.proofs.Laid.{Laid, laid}

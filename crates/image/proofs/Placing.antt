@@ -9,11 +9,11 @@ use lib.Dec.{leb, ltb, eqb}
 use lib.ListN.{length, getD}
 use lib.Seq.{slice, slice-empty, take-nil, drop-nil}
 use Rattle.address.specs.Number.{value, valueFrom, atMost}
-use Rattle.address.specs.Ranges.{Range, wellFormed, sortsAfter}
+use Rattle.address.specs.Ranges.{Range, rangeFrom, wellFormed, sortsAfter}
 use Rattle.address.specs.Positions.{numberIn, rangeIn}
 use Rattle.pieces.proofs.Tests.{or-false}
 use Rattle.fields.specs.Slices.{take-slice, drop-slice}
-use Rattle.records.specs.Record.{Record, isBlock, widthOf, rangeFrom, rangeOf, keyOf, sortedAfter, follows}
+use Rattle.records.specs.Record.{Record, isBlock, widthOf, rangeOf, keyOf, sortedAfter, follows}
 use Rattle.records.specs.Judge.{inOrder}
 use Rattle.records.specs.Layout.{partsOf, recordOn, LaidOut}
 use Rattle.records.specs.declared.Layout.{Layout}

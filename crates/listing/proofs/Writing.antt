@@ -42,6 +42,14 @@ written-both {s} {t} {a} {b} {c} {m} {n} u v =
       is = rest-put b c m ∙ rw (front, second) (sym (append-assoc s t (drop (m + n) a)));
     }
 
+-- four numbers at the front
+pub four-set : (s r k n : ℕ) (list : List ℕ) → 4 ≤ length list → set (set (set (set list 0 s) 1 r) 2 k) 3 n ≡ s ∷ r ∷ k ∷ n ∷ drop 4 list
+four-set s r k n [] h = absurd (omega arith)
+four-set s r k n (a ∷ []) h = absurd (omega arith)
+four-set s r k n (a ∷ b ∷ []) h = absurd (omega arith)
+four-set s r k n (a ∷ b ∷ c ∷ []) h = absurd (omega arith)
+four-set s r k n (a ∷ b ∷ c ∷ d ∷ list) h = refl
+
 -- one element more
 pub written-one : {s a b : List ℕ} {m : ℕ} (x : ℕ) → m < length b → Written s a b m → Written (s ++ (x ∷ [])) a (set b m x) (m + 1)
 written-one {s} {a} {b} {m} x h u =

@@ -3,10 +3,10 @@ use mathlib.Core.Bool.{Bool, not, cond, _&&_, _||_}
 use mathlib.Core.List.{List, [], _∷_}
 use Prim.Native.Nat.{ℕ, _*_}
 use lib.Dec.{leb, ltb, eqb}
-use lib.ListN.{length, take, drop}
+use lib.ListN.{length}
 use Rattle.address.specs.Lists.{within}
 use Rattle.address.specs.Number.{value, atMost}
-use Rattle.address.specs.Ranges.{Range, wellFormed, sortsAfter, crosses}
+use Rattle.address.specs.Ranges.{Range, rangeFrom, wellFormed, sortsAfter, crosses}
 use Rattle.fields.specs.Field.{Head, field, short, headOf}
 use Rattle.name.specs.Texts.{goodText, goodHost}
 
@@ -28,10 +28,6 @@ isKnown tag = within 0x10 0x15 tag
 -- the bytes of an address or number of a block
 abbrev pub widthOf : ℕ → ℕ
 widthOf tag = cond (eqb tag 0x11) 16 4
-
--- S4.3: field 20 is first and last, both included, high byte first.
-abbrev pub rangeFrom : ℕ → List ℕ → Range
-rangeFrom width bytes = record { first = value (take width bytes); last = value (drop width bytes) }
 
 abbrev pub rangeOf : Record → Range
 rangeOf r = rangeFrom (widthOf (r .tag)) (r .range)

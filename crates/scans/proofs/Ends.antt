@@ -8,8 +8,8 @@ use Rattle.address.specs.Lists.{_∈_, any}
 use Rattle.address.specs.Ranges.{Range, strictlyInside}
 use Rattle.blocks.specs.Blocks.{Block}
 use Rattle.blocks.specs.Scans.{downPass}
-use Rattle.blocks.proofs.Tests.{is-false, each, any-yes}
-use Rattle.blocks.proofs.Geometry.{covers-iff, strictly-iff, inside-iff}
+use Rattle.address.proofs.Tests.{is-false, each, any-yes}
+use Rattle.address.proofs.Geometry.{covers-iff, strictly-iff, inside-iff}
 use Rattle.blocks.proofs.Laminar.{Laminar, cons, Before, around, left, is-proper}
 use Rattle.blocks.proofs.Select.{None}
 use Rattle.scans.specs.Tests.{surroundsBy}

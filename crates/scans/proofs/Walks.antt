@@ -26,7 +26,7 @@ use Rattle.entries.proofs.Standing.{standing}
 use Rattle.image.proofs.Addresses.{low-family, wide-family}
 use Rattle.blocks.specs.Blocks.{Block, blocksFrom}
 use Rattle.blocks.specs.Defects.{accepted}
-use Rattle.blocks.proofs.Geometry.{proper}
+use Rattle.address.proofs.Geometry.{proper}
 use Rattle.blocks.proofs.Laminar.{Laminar, cons, accepted-laminar}
 use Rattle.scans.specs.Standing.{blocksIn, Asked}
 use Rattle.scans.specs.Tests.{Comparable}

@@ -1,8 +1,7 @@
 -- Two words of eight bytes are two digits to the base 2 ^ 64.
-use mathlib.Core.Path.{_∙_, sym}
+use mathlib.Core.Path.{sym}
 use denote.Ref.{now}
 use Rattle.address.proofs.Digits.{cut}
-use Rattle.address.proofs.Pairs.{pair-is}
 use borrow.Author.Needs.{needs}
 use Rattle.address.proofs.pair_at.Statement.{statement}
 use Rattle.address.proofs.pair_at.Tie as tie
@@ -18,8 +17,7 @@ word8-requires-2 c κs = search needs
 
 returns : tie.Need-returns
 returns c =
-    pair-is 18446744073709551616 (c .before .word8 .result) (c .word82 .result)
-    ∙ rw (c .before .word8 .ensures, c .word82 .ensures) (sym (cut (now (c .before .before .before .args .s)) (c .before .before .before .args .at) 8 8 (c .before .before .before .pre)))
+    rw (c .before .word8 .ensures, c .word82 .ensures) (sym (cut (now (c .before .before .before .args .s)) (c .before .before .before .args .at) 8 8 (c .before .before .before .pre)))
 
 pub pair-at-spec : {M : Type 1} → statement M
 pair-at-spec = tie.close (tie.spec word8-requires add-word8 word8-requires-2 returns)

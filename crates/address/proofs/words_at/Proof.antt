@@ -2,7 +2,6 @@
 use mathlib.Core.Path.{_∙_}
 use native.Mathlib.Nat.{zero-add}
 use native.Mathlib.Omega.{arith}
-use Rattle.address.proofs.Pairs.{pair-is}
 use borrow.Author.Needs.{needs}
 use Rattle.address.proofs.words_at.Statement.{statement}
 use Rattle.address.proofs.words_at.Tie as tie
@@ -11,7 +10,7 @@ word4-requires : tie.Need-word4-requires
 word4-requires c κs = search needs
 
 returns : tie.Need-returns
-returns c = pair-is 18446744073709551616 0 (c .word4 .result) ∙ zero-add (c .word4 .result) ∙ c .word4 .ensures .0 ∙ rw (c .before .if1 .taken)
+returns c = zero-add (c .word4 .result) ∙ c .word4 .ensures .0 ∙ rw (c .before .if1 .taken)
 
 pair-at-requires : tie.Need-pair-at-requires
 pair-at-requires c κs = let w = c .before .before .pre .0 .1 (c .if1 .left) in omega arith

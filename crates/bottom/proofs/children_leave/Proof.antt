@@ -9,7 +9,7 @@ use Rattle.address.specs.Words.{numberOf}
 use Rattle.blocks.specs.Scans.{gapPass}
 use Rattle.scans.specs.Standing.{blocksIn}
 use Rattle.bottom.specs.Links.{nth}
-use Rattle.bottom.proofs.Carry.{room}
+use Rattle.address.proofs.Pairs.{room}
 use Rattle.bottom.proofs.Tests.{comparable-at}
 use Rattle.bottom.proofs.Children.{Walking, walk-start, walk-end, child-known, walk-gap, walk-over, walk-next}
 use borrow.Author.Needs.{needs}
@@ -97,7 +97,7 @@ returns-2 : tie.Need-returns-2 Inv-loop μ-loop
 returns-2 c = walk-over (c .before .before .before .before .before .before .before .before .before .before .before .before .pre .0) (c .before .before .before .before .before .before .before .before .loop .inv) (c .before .before .before .before .before .before .before .loop-test .taken) (c .before .before .before .before .before .before .before .before .before .before .width-of .ensures .0) (c .before .before .before .before .before .words-at .ensures) (c .before .before .before .before .words-at-most .ensures) (not-false _ (c .before .before .before .if1 .left)) (c .before .before .words-at2 .ensures) (c .before .words-at-most2 .ensures) (c .if2 .taken)
 
 next-requires : tie.Need-next-requires Inv-loop μ-loop
-next-requires c κs = room 18446744073709551615 _ _ _ _ (omega arith) (omega arith) (omega arith) (leb-false _ _ (sym (c .before .words-at-most2 .ensures) ∙ c .if2 .left))
+next-requires c κs = room 18446744073709551615 _ _ _ _ (omega arith) (omega arith) (leb-false _ _ (sym (c .before .words-at-most2 .ensures) ∙ c .if2 .left))
 
 greater-requires : tie.Need-greater-requires Inv-loop μ-loop
 greater-requires c κs = search needs

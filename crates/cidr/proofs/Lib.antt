@@ -1,0 +1,10 @@
+pub mod Multiples
+pub mod Halving
+pub mod Exact
+pub mod Minimal
+pub mod Few
+pub mod Theorem
+pub mod Greedy
+pub mod Reached
+pub mod Zeros
+pub mod Step

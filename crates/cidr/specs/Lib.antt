@@ -1,0 +1,5 @@
+pub mod Prefixes
+pub mod Shortest
+pub mod First
+pub mod Computing
+pub mod Examples

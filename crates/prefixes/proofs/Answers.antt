@@ -1,0 +1,90 @@
+-- The answers of the call, from what was read, counted and written.
+use Prim.Native.Nat.{ℕ, _+_, _*_, _^_, _≤_, _<_}
+use mathlib.Core.Bool.{Bool, true, false, cond}
+use mathlib.Core.Option.{none, some}
+use mathlib.Core.Path.{_≡_, refl, sym, ap, subst, _∙_}
+use mathlib.Core.List.{List, _++_}
+use native.Mathlib.Omega.{arith}
+use native.Mathlib.Nat.{zero-add}
+use borrow.Author.Tests.{le-leb, lt-leb, lt-ltb, le-ltb, eq-eqb, ne-eqb, eqb-true}
+use lib.Dec.{eqb}
+use lib.ListN.{length, take, drop, length-drop}
+use lib.Seq.{take-all, getD-drop}
+use Rattle.address.specs.Number.{value, Bytes}
+use Rattle.address.specs.Positions.{Wide, numberIn}
+use Rattle.address.specs.Ranges.{rangeFrom, wellFormed}
+use Rattle.address.specs.Words.{numberOf}
+use Rattle.address.specs.declared.Words.{Words}
+use Rattle.address.proofs.Digits.{part-is, value-below}
+use Rattle.prefixes.specs.declared.Prefixed.{Prefixed}
+use Rattle.prefixes.specs.Call.{IpRange, entriesOf, ipRange, ipRangeOf, prefixesIn, entriesIn, prefixedOf, bufferAfter}
+use Rattle.prefixes.specs.Entries.{between, walked, Ordered}
+use Rattle.prefixes.proofs.Room.{at-width}
+
+-- a range of two addresses of so many bytes
+module _ (s : List ℕ) (width : ℕ) (long : length s ≡ 2 * width) where
+  first-read : numberIn s 0 width ≡ value (take width s)
+  first-read = ap value (part-is s 0 width (omega arith))
+
+  last-read : numberIn s width width ≡ value (drop width s)
+  last-read = ap value (part-is s width width (omega arith) ∙ take-all width (drop width s) (omega (arith, length-drop width s)))
+
+  last-below : Bytes s → value (drop width s) < 2 ^ (8 * width)
+  last-below b =
+      let e : length (drop width s) ≡ width = omega (arith, length-drop width s) in
+      rw e at (value-below (drop width s) (λ i l. rw (getD-drop width s i 0) (b (width + i) (omega (arith, length-drop width s)))))
+
+  -- read as words
+  module _ (first last : Words) (p : numberOf first ≡ numberIn s 0 width) (q : numberOf last ≡ numberIn s width width) where
+    first-is : value (take width s) ≡ numberOf first
+    first-is = sym (p ∙ first-read)
+
+    last-is : value (drop width s) ≡ numberOf last
+    last-is = sym (q ∙ last-read)
+
+    pub ordered : Wide width → Bytes s → numberOf first ≤ numberOf last → Ordered width first last
+    ordered w b h = record { wide = w; forward = h; below = rw (← last-is) (last-below b) }
+
+    no-range : numberOf last < numberOf first → ipRange width s ≡ none
+    unfolding ipRange wellFormed
+    no-range h = rw (first-is, last-is, lt-leb (numberOf first) (numberOf last) h)
+
+    a-range : numberOf first ≤ numberOf last → ipRange width s ≡ some (record { width = width; range = between first last })
+    unfolding ipRange wellFormed
+    a-range h = rw (first-is, last-is, le-leb (numberOf first) (numberOf last) h)
+
+    module _ (out : List ℕ) where
+      pub refused : numberOf last < numberOf first
+          → (record { reason = 6; count = 0 } ≡ prefixedOf (ipRange width s) (length out)) × (out ≡ bufferAfter (ipRange width s) out)
+      unfolding prefixedOf bufferAfter
+      refused h = rw (no-range h) (refl, refl)
+
+      module _ (o : Ordered width first last) where
+        pub full : {n : ℕ} → length out < length (entriesOf width (walked first last)) → n ≡ length (walked first last)
+            → (record { reason = 9; count = n } ≡ prefixedOf (ipRange width s) (length out)) × (out ≡ bufferAfter (ipRange width s) out)
+        unfolding prefixedOf bufferAfter entriesIn prefixesIn
+        full h e = rw (a-range (o .forward), at-width o, lt-ltb (length out) (length (entriesOf width (walked first last))) h, e) (refl, refl)
+
+        pub written : {n : ℕ} {after : List ℕ} → length (entriesOf width (walked first last)) ≤ length out → n ≡ length (walked first last)
+            → after ≡ entriesOf width (walked first last) ++ drop (length (entriesOf width (walked first last))) out
+            → (record { reason = 0; count = n } ≡ prefixedOf (ipRange width s) (length out)) × (after ≡ bufferAfter (ipRange width s) out)
+        unfolding prefixedOf bufferAfter entriesIn prefixesIn
+        written h e f = rw (a-range (o .forward), at-width o, le-ltb (length out) (length (entriesOf width (walked first last))) h, e, f) (refl, refl)
+
+-- which width a range has
+module _ (s out after : List ℕ) (r : Prefixed) where
+  abbrev Given : (width : ℕ) → Type 0
+  Given width = (r ≡ prefixedOf (ipRange width s) (length out)) × (after ≡ bufferAfter (ipRange width s) out)
+
+  pub four : length s ≡ 8 → Given 4 → (r ≡ prefixedOf (ipRangeOf s) (length out)) × (after ≡ bufferAfter (ipRangeOf s) out)
+  unfolding ipRangeOf
+  four e a = rw (eq-eqb (length s) 8 e) a
+
+  pub sixteen : length s ≡ 32 → Given 16 → (r ≡ prefixedOf (ipRangeOf s) (length out)) × (after ≡ bufferAfter (ipRangeOf s) out)
+  unfolding ipRangeOf
+  sixteen e a = rw (ne-eqb (length s) 8 (λ f. omega arith), eq-eqb (length s) 32 e) a
+
+pub neither : (s out : List ℕ) → (length s ≡ 8 → ⊥) → (length s ≡ 32 → ⊥)
+    → (record { reason = 6; count = 0 } ≡ prefixedOf (ipRangeOf s) (length out)) × (out ≡ bufferAfter (ipRangeOf s) out)
+unfolding ipRangeOf prefixedOf bufferAfter
+neither s out e f = rw (ne-eqb (length s) 8 e, ne-eqb (length s) 32 f) (refl, refl)

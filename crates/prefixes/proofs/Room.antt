@@ -1,0 +1,65 @@
+-- How many entries a range has, and how much room they need.
+use Prim.Native.Nat.{ℕ, suc, _+_, _-_, _*_, _^_, _≤_, _<_}
+use mathlib.Core.Bool.{Bool, true, false, cond}
+use mathlib.Core.Path.{_≡_, refl, sym, _∙_}
+use mathlib.Core.List.{List}
+use native.Mathlib.Omega.{arith}
+use native.Mathlib.Nat.{mul-le-mul-right}
+use borrow.Author.Tests.{lt-ltb, le-ltb, ltb-true, ltb-false}
+use lib.Dec.{ltb}
+use lib.ListN.{length}
+use Rattle.address.specs.Positions.{Wide}
+use Rattle.address.specs.declared.Words.{Words}
+use Rattle.cidr.specs.Prefixes.{Prefix, prefixesOf}
+use Rattle.cidr.proofs.Greedy.{wider}
+use Rattle.cidr.proofs.Theorem.{shortest}
+use Rattle.prefixes.specs.Call.{entriesOf}
+use Rattle.prefixes.specs.Entries.{between, walked, Ordered, fitOf}
+use Rattle.prefixes.specs.declared.Fit.the-variants.{Enough, Short}
+use Rattle.prefixes.proofs.Writing.{by-width, at-most-sixteen, length-entries}
+
+pub room-fits : {width : ℕ} → Wide width → (16 * width - 2) * (width + 1) < 18446744073709551616
+room-fits w = by-width w (λ (k : ℕ). (16 * k - 2) * (k + 1) < 18446744073709551616) (omega arith) (omega arith)
+
+module _ {width : ℕ} {first last : Words} (o : Ordered width first last) where
+  -- the code walks at 128 bits
+  pub at-width : prefixesOf (8 * width) (between first last) ≡ walked first last
+  at-width =
+      let e : 128 - 8 * width + 8 * width ≡ 128 = omega (arith, at-most-sixteen (o .wide)) in
+      sym (wider (between first last) (8 * width) (128 - 8 * width) (o .below)) ∙ rw e
+
+  few : length (walked first last) ≤ 16 * width - 2
+  few = omega (arith, rw at-width at (shortest (8 * width) (between first last) (o .below) .few (omega (arith, o .wide .0))))
+
+  -- counted
+  module _ {n : ℕ} (counted : n ≡ length (walked first last)) where
+    pub product-fits : n * (width + 1) < 18446744073709551616
+    product-fits = rw counted (omega (arith, room-fits (o .wide), mul-le-mul-right (width + 1) few))
+
+    size : length (entriesOf width (walked first last)) ≡ n * (width + 1)
+    size = rw counted (length-entries width (walked first last))
+
+    pub enough : {bytes : ℕ} → n * (width + 1) ≤ bytes → Enough ≡ fitOf width bytes (walked first last)
+    enough {bytes} h = rw (size, le-ltb bytes (n * (width + 1)) h)
+
+    pub too-short : {bytes : ℕ} → bytes < n * (width + 1) → Short n ≡ fitOf width bytes (walked first last)
+    too-short {bytes} h = rw (size, lt-ltb bytes (n * (width + 1)) h, counted)
+
+  pub ample : {bytes : ℕ} → (16 * width - 2) * (width + 1) ≤ bytes → Enough ≡ fitOf width bytes (walked first last)
+  ample h = enough refl (omega (arith, mul-le-mul-right (width + 1) few))
+
+-- what the check tells
+module _ (width room : ℕ) (ps : List Prefix) where
+  pub told-short : {n : ℕ} → Short n ≡ fitOf width room ps → (room < length (entriesOf width ps)) × (n ≡ length ps)
+  told-short {n} e = go (ltb room (length (entriesOf width ps))) refl e
+    where
+      go : (t : Bool) → ltb room (length (entriesOf width ps)) ≡ t → Short n ≡ cond t (Short (length ps)) Enough → (room < length (entriesOf width ps)) × (n ≡ length ps)
+      go true p q = (ltb-true _ _ p, cc)
+      go false p q = let z : _≡_ {A = ℕ} 0 1 = cc in absurd (omega arith)
+
+  pub told-enough : Enough ≡ fitOf width room ps → length (entriesOf width ps) ≤ room
+  told-enough e = go (ltb room (length (entriesOf width ps))) refl e
+    where
+      go : (t : Bool) → ltb room (length (entriesOf width ps)) ≡ t → Enough ≡ cond t (Short (length ps)) Enough → length (entriesOf width ps) ≤ room
+      go true p q = let z : _≡_ {A = ℕ} 0 1 = cc in absurd (omega arith)
+      go false p q = ltb-false _ _ p

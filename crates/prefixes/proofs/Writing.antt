@@ -1,0 +1,101 @@
+-- Entries written one after another to the front of a buffer: those that are written, and those of the rest of the range, are all.
+use Prim.Native.Nat.{ℕ, suc, _+_, _-_, _*_, _^_, _≤_, _<_}
+use mathlib.Core.Path.{_≡_, refl, sym, ap, _∙_}
+use mathlib.Core.List.{List, [], _∷_, _++_, append-assoc, append-nil}
+use native.Mathlib.Omega.{arith}
+use native.Mathlib.Decide.{decLe, ℕ-discrete}
+use borrow.Rule.Slice.PartMut.{putMid}
+use lib.ListN.{length, take, drop, length-append}
+use lib.Pow.{pow-mono, pow-pos}
+use Rattle.address.specs.Positions.{Wide}
+use Rattle.listing.specs.Writing.{Written}
+use Rattle.listing.proofs.Writing.{written-nothing, written-length, written-both}
+use Rattle.cidr.specs.Prefixes.{Prefix, from-to}
+use Rattle.cidr.specs.First.{Largest}
+use Rattle.prefixes.specs.Call.{bigEndian, entryOf, entriesOf}
+use Rattle.prefixes.specs.Entries.{EntryFits}
+use Rattle.prefixes.proofs.Bytes.{length-bytes}
+
+-- what holds of 4 and of 16 bytes
+pub by-width : {width : ℕ} → Wide width → (P : ℕ → Type 0) → P 4 → P 16 → P width
+by-width {width} w P four sixteen = go (ℕ-discrete width 4)
+  where
+    go : Dec (width ≡ 4) → P width
+    go (yes e) = rw e four
+    go (no n) = rw (w .1 n) sixteen
+
+length-entry : (width : ℕ) (p : Prefix) → length (entryOf width p) ≡ width + 1
+unfolding entryOf
+length-entry width p = length-append (bigEndian width (p .first)) _ ∙ omega (arith, length-bytes width (p .first))
+
+pub length-entries : (width : ℕ) (ps : List Prefix) → length (entriesOf width ps) ≡ length ps * (width + 1)
+unfolding entriesOf
+length-entries width [] = omega arith
+length-entries width (p ∷ ps) =
+    length-append (entryOf width p) (entriesOf width ps) ∙ omega (arith, length-entry width p, length-entries width ps)
+
+-- one entry more
+entries-snoc : (width : ℕ) (ps : List Prefix) (p : Prefix) → entriesOf width (ps ++ (p ∷ [])) ≡ entriesOf width ps ++ entryOf width p
+unfolding entriesOf
+entries-snoc width [] p = append-nil (entryOf width p)
+entries-snoc width (q ∷ ps) p = rw (entries-snoc width ps p) (sym (append-assoc (entryOf width q) (entriesOf width ps) (entryOf width p)))
+
+-- `n` counts the entry to come too
+pub record Entered (width : ℕ) (all rest : List Prefix) (before after : List ℕ) (at n : ℕ) : Type 0 where
+  pub done : List Prefix
+  pub whole : all ≡ done ++ rest
+  pub front : Written (entriesOf width done) before after at
+  pub counted : n ≡ suc (length done)
+
+pub nothing-entered : (width : ℕ) (ps : List Prefix) (before : List ℕ) → Entered width ps ps before before 0 1
+unfolding entriesOf
+nothing-entered width ps before = record { done = []; whole = refl; front = written-nothing before; counted = refl }
+
+module _ {width at n : ℕ} {all rest : List Prefix} {before after : List ℕ} (g : Entered width all rest before after at n) (room : length (entriesOf width all) ≤ length before) where
+  size : (length (g .done) + length rest) * (width + 1) ≡ length (entriesOf width all)
+  size = sym (length-entries width all ∙ ap (λ (ps : List Prefix). length ps * (width + 1)) (g .whole) ∙ rw (length-append (g .done) rest))
+
+  place : at ≡ length (g .done) * (width + 1)
+  place = g .front .size ∙ length-entries width (g .done)
+
+  pub kept-length : length after ≡ length before
+  kept-length = written-length (g .front) (omega (arith, size, place))
+
+  -- the next entry
+  module _ {p : Prefix} {left : List Prefix} (known : rest ≡ p ∷ left) where
+    more : length rest ≡ suc (length left)
+    more = ap length known
+
+    pub entry-inside : at + (width + 1) ≤ length after
+    entry-inside = omega (arith, rw more at size, place, kept-length)
+
+    pub few-entered : n ≤ length all
+    few-entered = omega (arith, g .counted, ap length (g .whole) ∙ length-append (g .done) rest, more)
+
+    pub entered : {c : List ℕ} → Written (entryOf width p) (take (length after - at) (drop at after)) c (width + 1)
+        → Entered width all left before (putMid at (length after - at) after c) (at + (width + 1)) (n + 1)
+    entered w = record {
+      done = g .done ++ (p ∷ []);
+      whole = g .whole ∙ rw known (sym (append-assoc (g .done) (p ∷ []) left));
+      front = rw (entries-snoc width (g .done) p) (written-both (g .front) w);
+      counted = omega (arith, g .counted, length-append (g .done) (p ∷ []));
+    }
+
+pub all-entered : {width at n : ℕ} {all : List Prefix} {before after : List ℕ} → Entered width all [] before after at (n + 1)
+    → (n ≡ length all) × (after ≡ entriesOf width all ++ drop (length (entriesOf width all)) before)
+all-entered {width} {before = before} g =
+    let e = g .whole ∙ append-nil (g .done) in
+    rw e (omega (arith, g .counted), g .front .is ∙ ap (λ (k : ℕ). entriesOf width (g .done) ++ drop k before) (g .front .size))
+
+pub at-most-sixteen : {width : ℕ} → Wide width → width ≤ 16
+at-most-sixteen w = by-width w (λ (k : ℕ). k ≤ 16) (omega arith) (omega arith)
+
+-- the entry of a prefix inside the range fits
+pub entry-fits : (width : ℕ) {s e t : ℕ} → Wide width → s ≤ e → e < 2 ^ (8 * width) → Largest (from-to s e) t → EntryFits width s t
+entry-fits width {s} {e} {t} w h b l = record { wide = w; address = omega arith; short = at-most (decLe t (8 * width)) }
+  where
+    at-most : Dec (t ≤ 8 * width) → t ≤ 8 * width
+    at-most (yes d) = d
+    at-most (no d) =
+        let i : suc (8 * width) ≤ t = omega arith in
+        absurd (omega (arith, l .inside, pow-mono i, pow-pos (8 * width)))

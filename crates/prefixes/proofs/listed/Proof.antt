@@ -1,0 +1,98 @@
+-- The answers are those of Answers.antt: no range, too little room, written.
+use Prim.Native.Nat.{_≤_}
+use mathlib.Core.Path.{sym, _∙_}
+use borrow.Author.Tests.{leb-true, leb-false, not-true, not-false}
+use denote.Ref.{now}
+use Rattle.address.specs.Number.{Bytes}
+use Rattle.address.specs.Words.{numberOf}
+use Rattle.address.specs.declared.Words.{Words}
+use Rattle.prefixes.specs.Entries.{Ordered}
+use Rattle.prefixes.proofs.Room.{told-short, told-enough}
+use Rattle.prefixes.proofs.Answers.{ordered, refused, full, written}
+use borrow.Author.Needs.{needs}
+use Rattle.prefixes.proofs.listed.Statement.{statement}
+use Rattle.prefixes.proofs.listed.Tie as tie
+
+-- what was read
+module _ (c : tie.After-words-at2) where
+  abbrev start : tie.Start
+  start = c .before .before .before .before
+
+  abbrev first : Words
+  first = c .before .words-at .result
+
+  abbrev last : Words
+  last = c .words-at2 .result
+
+  bytes : Bytes (now (start .args .range))
+  bytes i h = c .before .before .before .shared-slice-known .given i .fits
+
+  in-order : numberOf first ≤ numberOf last → Ordered (start .args .width) first last
+  in-order = ordered (now (start .args .range)) (start .args .width) (start .pre .1) first last (c .before .words-at .ensures) (c .words-at2 .ensures) (start .pre .0) bytes
+
+words-at-requires : tie.Need-words-at-requires
+words-at-requires c κs = search needs
+
+words-at-requires-2 : tie.Need-words-at-requires-2
+words-at-requires-2 c κs = search needs
+
+words-at-most-requires : tie.Need-words-at-most-requires
+words-at-most-requires c κs = search needs
+
+returns : tie.Need-returns
+returns c =
+    let read = c .before .before in
+    refused (now (start read .args .range)) (start read .args .width) (start read .pre .1) (first read) (last read) (read .before .words-at .ensures) (read .words-at2 .ensures)
+    _ (leb-false _ _ (sym (c .before .words-at-most .ensures) ∙ not-true _ (c .if1 .taken)))
+
+forward : (c : tie.Else1) → Ordered (start (c .before .before) .args .width) (first (c .before .before)) (last (c .before .before))
+forward c = in-order (c .before .before) (leb-true _ _ (sym (c .before .words-at-most .ensures) ∙ not-false _ (c .if1 .left)))
+
+check-room-requires : tie.Need-check-room-requires
+check-room-requires c κs = forward c
+
+enum-known-n : tie.Need-enum-known-n
+enum-known-n c = search needs
+
+enum-told : tie.Need-enum-told
+enum-told c = search needs
+
+write-requires : tie.Need-write-requires
+write-requires c κs =
+    let room = c .before .before .before in
+    (forward (room .before), told-enough _ _ _ (sym (c .before .enum-told .given .1) ∙ room .check-room .ensures))
+
+returns-2 : tie.Need-returns-2
+returns-2 c =
+    let room = c .before .before .before in
+    let read = room .before .before .before in
+    let told = told-short _ _ _ (sym (c .before .n .given .1) ∙ room .check-room .ensures) in
+    full (now (start read .args .range)) (start read .args .width) (start read .pre .1) (first read) (last read) (read .before .words-at .ensures) (read .words-at2 .ensures)
+    _ (forward (room .before)) (told .0) (told .1)
+
+same-length : tie.Need-same-length
+same-length c = search needs
+
+returns-3 : tie.Need-returns-3
+returns-3 c =
+    let room = c .before .before .before .before .before .before in
+    let read = room .before .before .before in
+    let done = c .before .before .write .ensures in
+    written (now (start read .args .range)) (start read .args .width) (start read .pre .1) (first read) (last read) (read .before .words-at .ensures) (read .words-at2 .ensures)
+    _ (forward (room .before)) (told-enough _ _ _ (sym (c .before .before .before .before .enum-told .given .1) ∙ room .check-room .ensures)) (done .0) (done .1)
+
+pub listed-spec : {M : Type 1} → statement M
+listed-spec =
+    tie.close
+    (tie.spec
+    words-at-requires
+    words-at-requires-2
+    words-at-most-requires
+    returns
+    check-room-requires
+    enum-known-n
+    enum-told
+    write-requires
+    returns-2
+    same-length
+    returns-3)

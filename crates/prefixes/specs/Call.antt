@@ -1,0 +1,52 @@
+-- The call that lists the prefixes of a range (S2.6): a range as bytes goes in, entries in a lent buffer come out.
+use Prim.Native.Nat.{ℕ, zero, suc, _-_, _*_, _/_, _%_}
+use mathlib.Core.Bool.{cond}
+use mathlib.Core.Option.{Option, none, some}
+use mathlib.Core.List.{List, [], _∷_, _++_}
+use lib.Dec.{eqb, ltb}
+use lib.ListN.{length, drop}
+use Rattle.address.specs.Ranges.{Range, rangeFrom, wellFormed}
+use Rattle.cidr.specs.Prefixes.{Prefix, prefixesOf}
+use Rattle.prefixes.specs.declared.Prefixed.{Prefixed}
+
+-- A range of addresses of so many bytes: 4 for IPv4, 16 for IPv6.
+pub record IpRange : Type 0 where
+  pub width : ℕ
+  pub range : Range
+
+-- none where first is above last
+unfoldable pub ipRange : ℕ → List ℕ → Option IpRange
+ipRange width s = cond (wellFormed (rangeFrom width s)) (some (record { width = width; range = rangeFrom width s })) none
+
+-- first and last, of 4 or 16 bytes each
+unfoldable pub ipRangeOf : List ℕ → Option IpRange
+ipRangeOf s = cond (eqb (length s) 8) (ipRange 4 s) (cond (eqb (length s) 32) (ipRange 16 s) none)
+
+unfoldable pub prefixesIn : IpRange → List Prefix
+prefixesIn a = prefixesOf (8 * a .width) (a .range)
+
+-- the n low bytes of a number, high byte first
+unfoldable pub bigEndian : ℕ → ℕ → List ℕ
+bigEndian zero v = []
+bigEndian (suc n) v = bigEndian n (v / 256) ++ (v % 256 ∷ [])
+
+-- An entry is the address in 4 or 16 bytes, then its length in one.
+unfoldable pub entryOf : ℕ → Prefix → List ℕ
+entryOf width p = bigEndian width (p .first) ++ ((8 * width - p .free) ∷ [])
+
+unfoldable pub entriesOf : ℕ → List Prefix → List ℕ
+entriesOf width [] = []
+entriesOf width (p ∷ ps) = entryOf width p ++ entriesOf width ps
+
+unfoldable pub entriesIn : IpRange → List ℕ
+entriesIn a = entriesOf (a .width) (prefixesIn a)
+
+-- No such range is reason 6; too little room is reason 9 with the number of prefixes needed.
+unfoldable pub prefixedOf : Option IpRange → ℕ → Prefixed
+prefixedOf none room = record { reason = 6; count = 0 }
+prefixedOf (some a) room = record { reason = cond (ltb room (length (entriesIn a))) 9 0; count = length (prefixesIn a) }
+
+-- The buffer afterwards: the entries, then what it held there before; after a refusal all that it held.
+unfoldable pub bufferAfter : Option IpRange → List ℕ → List ℕ
+bufferAfter none out = out
+bufferAfter (some a) out = cond (ltb (length out) (length (entriesIn a))) out (entriesIn a ++ drop (length (entriesIn a)) out)

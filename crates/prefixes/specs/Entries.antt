@@ -1,0 +1,37 @@
+-- Serves contracts and proofs. The entries of prefixes, as the code counts and writes them.
+use Prim.Native.Nat.{ℕ, _*_, _^_, _≤_, _<_}
+use mathlib.Core.Bool.{cond}
+use mathlib.Core.List.{List}
+use lib.Dec.{ltb}
+use lib.ListN.{length}
+use Rattle.address.specs.Positions.{Wide}
+use Rattle.address.specs.Ranges.{Range}
+use Rattle.address.specs.Words.{numberOf}
+use Rattle.address.specs.declared.Words.{Words}
+use Rattle.cidr.specs.Prefixes.{Prefix, from-to, prefixesOf}
+use Rattle.prefixes.specs.Call.{entriesOf}
+use Rattle.prefixes.specs.declared.Fit.{Fit}
+use Rattle.prefixes.specs.declared.Fit.the-variants.{Enough, Short}
+
+abbrev pub between : Words → Words → Range
+between first last = from-to (numberOf first) (numberOf last)
+
+-- Every range of addresses has the same prefixes at 128 bits as at its own width: the code counts and writes at 128.
+abbrev pub walked : Words → Words → List Prefix
+walked first last = prefixesOf 128 (between first last)
+
+-- two addresses of so many bytes, in order
+pub record Ordered (width : ℕ) (first last : Words) : Type 0 where
+  pub wide : Wide width
+  pub forward : numberOf first ≤ numberOf last
+  pub below : numberOf last < 2 ^ (8 * width)
+
+-- a prefix whose address has so many bytes
+pub record EntryFits (width first free : ℕ) : Type 0 where
+  pub wide : Wide width
+  pub address : first < 2 ^ (8 * width)
+  pub short : free ≤ 8 * width
+
+-- whether so much room is enough for the entries; if it is not, how many there are
+abbrev pub fitOf : ℕ → ℕ → List Prefix → Fit
+fitOf width room ps = cond (ltb room (length (entriesOf width ps))) (Short (length ps)) Enough

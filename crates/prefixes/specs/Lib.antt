@@ -1,0 +1,4 @@
+pub mod Call
+pub mod Entries
+pub mod Computing
+pub mod Examples

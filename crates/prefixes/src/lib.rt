@@ -1,0 +1,277 @@
+// A range of addresses as prefixes (S2.6). The zero bits at the low end of the first address that is left decide the next one, capped by what
+// remains.
+ghost use mathlib.Core.Path.{_≡_};
+ghost use mathlib.Core.List.{_++_};
+ghost use Prim.Native.Nat.{suc, _+_, _-_, _*_, _^_, _%_, _≤_, _<_};
+ghost use lib.Count.{trailingZeros};
+ghost use lib.ListN.{length, drop};
+ghost use Rattle.address.specs.Positions.{Wide};
+ghost use Rattle.address.specs.Words.{numberOf};
+ghost use Rattle.listing.specs.Writing.{Written};
+ghost use Rattle.cidr.specs.Prefixes.{prefix};
+ghost use Rattle.cidr.specs.First.{Largest, Top};
+ghost use Rattle.prefixes.specs.Call.{bigEndian, entryOf, entriesOf, ipRange, ipRangeOf, prefixedOf, bufferAfter};
+ghost use Rattle.prefixes.specs.Entries.{between, walked, Ordered, EntryFits, fitOf};
+use address::Words;
+use address::next;
+use address::words_at;
+use address::words_at_most;
+
+// The reason, and how many prefixes there are, or are needed.
+pub struct Prefixed {
+    pub reason: u32,
+    pub count: u32,
+}
+
+// Whether the entries fit in a buffer; if they do not, how many there are.
+enum Fit {
+    Enough,
+    Short(u32),
+}
+
+// The zero bits at the low end.
+fn trailing_zeros(a: Words) -> u32
+    ensures { λ r. ⌜ r ≡ trailingZeros 128 (numberOf a) ⌝ }
+{
+    let high = a.high;
+    let low = a.low;
+    if low == 0 {
+        64 + u64::trailing_zeros(high)
+    } else {
+        u64::trailing_zeros(low)
+    }
+}
+
+// How many addresses follow start up to last.
+fn remaining(start: Words, last: Words) -> Words
+    requires { ⌜ numberOf start ≤ numberOf last ⌝ }
+    ensures { λ r. ⌜ numberOf start + numberOf r ≡ numberOf last ⌝ }
+{
+    let high = start.high;
+    let low = start.low;
+    let last_high = last.high;
+    let last_low = last.low;
+    let above = last_high - high;
+    if low <= last_low {
+        let below = last_low - low;
+        return Words {
+            high: above,
+            low: below,
+        };
+    }
+    let borrowed = above - 1;
+    let below = 18446744073709551615 - low + last_low + 1;
+    Words {
+        high: borrowed,
+        low: below,
+    }
+}
+
+// The place of the highest bit.
+fn top_bit(v: u64) -> u32
+    requires { ⌜ 0 < v ⌝ }
+    ensures { λ r. ⌜ (r < 64) × Top v r ⌝ }
+{
+    63 - u64::leading_zeros(v)
+}
+
+// The bits that may be free in so many addresses and one more.
+fn cap(left: Words) -> u32
+    ensures { λ r. ⌜ (r ≤ 128) × Top (suc (numberOf left)) r ⌝ }
+{
+    let high = left.high;
+    let low = left.low;
+    if low < 18446744073709551615 {
+        if high == 0 {
+            return top_bit(low + 1);
+        }
+        return 64 + top_bit(high);
+    }
+    if high < 18446744073709551615 {
+        return 64 + top_bit(high + 1);
+    }
+    128
+}
+
+// The free bits of the next prefix: the trailing zeros of the start, capped by what remains.
+fn free_bits(start: Words, last: Words) -> u32
+    requires { ⌜ numberOf start ≤ numberOf last ⌝ }
+    ensures { λ r. ⌜ (r ≤ 128) × Largest (between start last) r ⌝ }
+{
+    let zeros = trailing_zeros(start);
+    let most = cap(remaining(start, last));
+    if zeros < most { zeros } else { most }
+}
+
+// The k low bits set.
+fn ones(k: u32) -> u64
+    requires { ⌜ k ≤ 64 ⌝ }
+    ensures { λ r. ⌜ suc r ≡ 2 ^ k ⌝ }
+{
+    if k == 64 {
+        return 18446744073709551615;
+    }
+    (1u64 << k) - 1
+}
+
+// The last address of the prefix at start.
+fn last_of(start: Words, free: u32) -> Words
+    requires { ⌜ (free ≤ 128) × (numberOf start % 2 ^ free ≡ 0) × (numberOf start + 2 ^ free ≤ 2 ^ 128) ⌝ }
+    ensures { λ r. ⌜ suc (numberOf r) ≡ numberOf start + 2 ^ free ⌝ }
+{
+    let high = start.high;
+    let low = start.low;
+    if free <= 64 {
+        let end = low + ones(free);
+        return Words { high, low: end };
+    }
+    let end = high + ones(free - 64);
+    Words {
+        high: end,
+        low: 18446744073709551615,
+    }
+}
+
+// How many prefixes the range has.
+fn count(first: Words, last: Words) -> u32
+    requires { ⌜ numberOf first ≤ numberOf last ⌝ }
+    ensures { λ r. ⌜ r ≡ length (walked first last) ⌝ }
+{
+    let mut start = first;
+    let mut n: u32 = 1;
+    loop {
+        let free = free_bits(start, last);
+        let end = last_of(start, free);
+        if words_at_most(last, end) {
+            return n;
+        }
+        start = next(end);
+        n += 1;
+    }
+}
+
+// Four bytes of a number, high byte first.
+fn put4(v: u64, out: &mut [u8])
+    requires { ⌜ 4 ≤ length (now out) ⌝ }
+    ensures { λ _. ⌜ Written (bigEndian 4 v) (now (out .entry)) (now (out .exit)) 4 ⌝ }
+{
+    out[0] = (v / 16777216 % 256) as u8;
+    out[1] = (v / 65536 % 256) as u8;
+    out[2] = (v / 256 % 256) as u8;
+    out[3] = (v % 256) as u8;
+}
+
+// Eight bytes.
+fn put8(v: u64, out: &mut [u8])
+    requires { ⌜ 8 ≤ length (now out) ⌝ }
+    ensures { λ _. ⌜ Written (bigEndian 8 v) (now (out .entry)) (now (out .exit)) 8 ⌝ }
+{
+    put4(v / 4294967296, out);
+    put4(v % 4294967296, &mut out[4..]);
+}
+
+// The address, in 4 or 16 bytes.
+fn put_address(a: Words, width: usize, out: &mut [u8])
+    requires { ⌜ Wide width × (width ≤ length (now out)) × (numberOf a < 2 ^ (8 * width)) ⌝ }
+    ensures { λ _. ⌜ Written (bigEndian width (numberOf a)) (now (out .entry)) (now (out .exit)) width ⌝ }
+{
+    let high = a.high;
+    let low = a.low;
+    if width == 4 {
+        put4(low, out);
+        return;
+    }
+    put8(high, out);
+    put8(low, &mut out[8..]);
+}
+
+// The entry of a prefix: its first address, and its length.
+fn put_entry(first: Words, free: u32, width: usize, out: &mut [u8])
+    requires { ⌜ EntryFits width (numberOf first) free × (width + 1 ≤ length (now out)) ⌝ }
+    ensures { λ _. ⌜ Written (entryOf width (prefix (numberOf first) free)) (now (out .entry)) (now (out .exit)) (width + 1) ⌝ }
+{
+    put_address(first, width, out);
+    let bits = 8 * width as u32;
+    out[width] = (bits - free) as u8;
+}
+
+// Writes the entries to the front of the buffer, which has room for them. Gives how many there are.
+fn write(first: Words, last: Words, width: usize, out: &mut [u8]) -> u32
+    requires { ⌜ Ordered width first last × (length (entriesOf width (walked first last)) ≤ length (now out)) ⌝ }
+    ensures { λ r. ⌜ (r ≡ length (walked first last)) × (now (out .exit) ≡ entriesOf width (walked first last) ++ drop (length (entriesOf width (walked first last))) (now (out .entry))) ⌝ }
+{
+    let mut start = first;
+    let mut at: usize = 0;
+    let mut n: u32 = 1;
+    loop {
+        let free = free_bits(start, last);
+        put_entry(start, free, width, &mut out[at..]);
+        let end = last_of(start, free);
+        if words_at_most(last, end) {
+            return n;
+        }
+        start = next(end);
+        at += width + 1;
+        n += 1;
+    }
+}
+
+// Whether so many bytes are enough for the entries. They are counted only where there are fewer than any range of the family needs.
+fn check_room(first: Words, last: Words, width: usize, bytes: usize) -> Fit
+    requires { ⌜ Ordered width first last ⌝ }
+    ensures { λ r. ⌜ r ≡ fitOf width bytes (walked first last) ⌝ }
+{
+    let size = width + 1;
+    if (16 * width - 2) * size <= bytes {
+        return Fit::Enough;
+    }
+    let n = count(first, last);
+    if n as usize * size <= bytes {
+        return Fit::Enough;
+    }
+    Fit::Short(n)
+}
+
+// The prefixes of a range whose addresses have so many bytes.
+fn listed(range: &[u8], width: usize, out: &mut [u8]) -> Prefixed
+    requires { ⌜ Wide width × (length (now range) ≡ 2 * width) ⌝ }
+    ensures { λ r. ⌜ r ≡ prefixedOf (ipRange width (now (range .entry))) (length (now (out .entry))) ⌝ }
+    ensures { λ r. ⌜ now (out .exit) ≡ bufferAfter (ipRange width (now (range .entry))) (now (out .entry)) ⌝ }
+{
+    let first = words_at(range, 0, width);
+    let last = words_at(range, width, width);
+    if !words_at_most(first, last) {
+        return Prefixed {
+            reason: 6,
+            count: 0,
+        };
+    }
+    match check_room(first, last, width, out.len()) {
+        Fit::Short(n) => Prefixed {
+            reason: 9,
+            count: n,
+        },
+        Fit::Enough => Prefixed {
+            reason: 0,
+            count: write(first, last, width, out),
+        },
+    }
+}
+
+// The prefixes of a range of addresses, first then last, of 4 or 16 bytes each: to the front of the buffer, each as its address and its length.
+pub fn prefixes(range: &[u8], out: &mut [u8]) -> Prefixed
+    ensures { λ r. ⌜ r ≡ prefixedOf (ipRangeOf (now (range .entry))) (length (now (out .entry))) ⌝ }
+    ensures { λ r. ⌜ now (out .exit) ≡ bufferAfter (ipRangeOf (now (range .entry))) (now (out .entry)) ⌝ }
+{
+    let n = range.len();
+    if n == 8 {
+        return listed(range, 4, out);
+    }
+    if n == 32 {
+        return listed(range, 16, out);
+    }
+    Prefixed {
+        reason: 6,
+        count: 0,
+    }
+}
