@@ -1,5 +1,5 @@
--- The free bits that what remains allows, by its highest bit; and the step of the code: trailing zeros, capped by that.
-use Prim.Native.Nat.{ℕ, suc, _+_, _-_, _*_, _^_, _≤_, _<_, min}
+-- The step of a walk over the prefixes: the trailing zeros of the start, capped by the highest bit of what remains.
+use Prim.Native.Nat.{ℕ, suc, _+_, _-_, _*_, _^_, _%_, _≤_, _<_, min}
 use mathlib.Core.Path.{_≡_, refl}
 use mathlib.Core.List.{_∷_}
 use native.Mathlib.Omega.{arith}
@@ -10,7 +10,7 @@ use lib.Pow.{pow-add, pow-mono, pow-pos}
 use Rattle.address.specs.Ranges.{Range}
 use Rattle.cidr.specs.Prefixes.{prefix, from-to, prefixesOf}
 use Rattle.cidr.specs.First.{Largest, Top}
-use Rattle.cidr.proofs.Multiples.{finer, of-remainder, to-remainder}
+use Rattle.cidr.proofs.Multiples.{sum, itself, finer, near, of-remainder, to-remainder}
 use Rattle.cidr.proofs.Zeros.{Zeros, zeros}
 use Rattle.cidr.proofs.Greedy.{first-prefix}
 
@@ -24,40 +24,60 @@ top-high k {h} {l} {t} p b = record {
 }
 
 -- trailing zeros of the start, capped by the bits that what remains allows
-module _ (w s d e z cap : ℕ) (sum : s + d ≡ e) (low : z ≡ trailingZeros w s) (most : cap ≤ w) (room : Top (suc d) cap) where
+module _ (w s e z : ℕ) (low : z ≡ trailingZeros w s) (below : e < 2 ^ w) where
   start : Zeros w s z
   start = rw low (zeros w s)
 
-  pub by-zeros : z < cap → Largest (record { first = s; last = e }) z
-  by-zeros h = record {
-    zeros = to-remainder z (start .multiple);
-    inside = omega (arith, pow-mono {i = z} {j = cap} (omega arith), room .from);
-    next = λ m g. start .next (omega arith) (of-remainder s (suc z) m);
-  }
+  pub aligned : s % 2 ^ z ≡ 0
+  aligned = to-remainder z (start .multiple)
 
-  pub by-room : cap ≤ z → Largest (record { first = s; last = e }) cap
-  by-room h = record {
-    zeros = to-remainder cap (finer cap z h (start .multiple));
-    inside = omega (arith, room .from);
-    next = λ m g. omega (arith, g, room .to);
+  pub short : z ≤ w
+  short = start .short
+
+  -- the prefix that the zeros allow ends inside the range
+  pub by-zeros : s + 2 ^ z ≤ suc e → Largest (from-to s e) z
+  by-zeros h = record {
+    zeros = aligned;
+    inside = h;
+    next = λ m g. start .next (more (decLt z w) g) (of-remainder s (suc z) m);
   }
+    where
+      more : Dec (z < w) → s + 2 ^ suc z ≤ suc e → z < w
+      more (yes d) g = d
+      more (no d) g = absurd (omega (arith, g, pow-mono {i = w} {j = z} (omega arith), pow-pos w))
+
+  -- it ends after the range: what remains decides
+  module _ {d cap : ℕ} (sum : s + d ≡ e) (room : Top (suc d) cap) (h : suc e < s + 2 ^ z) where
+    pub capped : cap ≤ z
+    capped = go (decLe cap z)
+      where
+        go : Dec (cap ≤ z) → cap ≤ z
+        go (yes l) = l
+        go (no l) = absurd (omega (arith, room .from, pow-mono {i = z} {j = cap} (omega arith)))
+
+    pub by-room : Largest (from-to s e) cap
+    by-room = record {
+      zeros = to-remainder cap (finer cap z capped (start .multiple));
+      inside = omega (arith, room .from);
+      next = λ m g. omega (arith, g, room .to);
+    }
+
+  -- it ends at the latest with the last address of all
+  pub ends : s ≤ e → s + 2 ^ z ≤ 2 ^ w
+  ends h = near (2 ^ z) (sum (start .multiple) (itself (2 ^ z))) (finer z w (start .short) (itself (2 ^ w))) (omega arith)
 
 -- The first prefix of a range, and the rest: the trailing zeros of its start, capped by the highest bit of how many addresses it has.
 pub zeros-capped : (w : ℕ) (r : Range) (cap : ℕ) → r .first ≤ r .last → r .last < 2 ^ w → Top (suc (r .last - r .first)) cap
     → prefixesOf w r ≡ prefix (r .first) (min (trailingZeros w (r .first)) cap) ∷ prefixesOf w (from-to (r .first + 2 ^ min (trailingZeros w (r .first)) cap) (r .last))
-zeros-capped w r cap h b p = first-prefix w r (min (trailingZeros w (r .first)) cap) b (go (decLt (trailingZeros w (r .first)) cap))
+zeros-capped w r cap h b p = first-prefix w r (min z cap) b (go (decLe (r .first + 2 ^ z) (suc (r .last))) (decLe z cap))
   where
-    sum : r .first + (r .last - r .first) ≡ r .last
-    sum = omega arith
+    z : ℕ
+    z = trailingZeros w (r .first)
 
-    most : Dec (cap ≤ w) → cap ≤ w
-    most (yes d) = d
-    most (no d) = absurd (omega (arith, p .from, pow-mono {i = suc w} {j = cap} (omega arith), pow-pos w))
-
-    go : Dec (trailingZeros w (r .first) < cap) → Largest r (min (trailingZeros w (r .first)) cap)
-    go (yes d) =
-        let e : min (trailingZeros w (r .first)) cap ≡ trailingZeros w (r .first) = omega arith in
-        rw e (by-zeros w (r .first) (r .last - r .first) (r .last) (trailingZeros w (r .first)) cap sum refl (most (decLe cap w)) p d)
-    go (no d) =
-        let e : min (trailingZeros w (r .first)) cap ≡ cap = omega arith in
-        rw e (by-room w (r .first) (r .last - r .first) (r .last) (trailingZeros w (r .first)) cap sum refl (most (decLe cap w)) p (omega arith))
+    go : Dec (r .first + 2 ^ z ≤ suc (r .last)) → Dec (z ≤ cap) → Largest r (min z cap)
+    go (yes d) (yes l) = let e : min z cap ≡ z = omega arith in rw e (by-zeros w (r .first) (r .last) z refl b d)
+    go (yes d) (no l) = absurd (omega (arith, p .to, pow-mono {i = suc cap} {j = z} (omega arith)))
+    go (no d) l =
+        let c : cap ≤ z = capped w (r .first) (r .last) z refl b (omega arith) p (omega arith) in
+        let e : min z cap ≡ cap = omega arith in
+        rw e (by-room w (r .first) (r .last) z refl b (omega arith) p (omega arith))

@@ -13,6 +13,13 @@ use Rattle.cidr.proofs.Greedy.{first-prefix, no-more}
 pub wide : {h l : ℕ} → h < 18446744073709551616 → l < 18446744073709551616 → h * 18446744073709551616 + l < 2 ^ 128
 wide h l = digits-lt h l
 
+-- an end inside a range, and one after it
+pub ends-by : {r e n : ℕ} → suc r ≡ n → r ≤ e → n ≤ suc e
+ends-by h l = omega arith
+
+pub ends-after : {r e n : ℕ} → suc r ≡ n → e < r → suc e < n
+ends-after h l = omega arith
+
 pub ends-inside : (w : ℕ) {s e t : ℕ} → e < 2 ^ w → Largest (from-to s e) t → s + 2 ^ t ≤ 2 ^ w
 ends-inside w below largest = omega (arith, largest .inside)
 

@@ -93,16 +93,6 @@ fn cap(left: Words) -> u32
     128
 }
 
-// The free bits of the next prefix: the trailing zeros of the start, capped by what remains.
-fn free_bits(start: Words, last: Words) -> u32
-    requires { ⌜ numberOf start ≤ numberOf last ⌝ }
-    ensures { λ r. ⌜ (r ≤ 128) × Largest (between start last) r ⌝ }
-{
-    let zeros = trailing_zeros(start);
-    let most = cap(remaining(start, last));
-    if zeros < most { zeros } else { most }
-}
-
 // The k low bits set.
 fn ones(k: u32) -> u64
     requires { ⌜ k ≤ 64 ⌝ }
@@ -132,6 +122,30 @@ fn last_of(start: Words, free: u32) -> Words
     }
 }
 
+// The next prefix: how many of its bits are free, and its last address.
+struct Step {
+    free: u32,
+    end: Words,
+}
+
+// The prefix at start: its trailing zeros decide, capped by what remains.
+fn prefix_at(start: Words, last: Words) -> Step
+    requires { ⌜ numberOf start ≤ numberOf last ⌝ }
+    ensures { λ r. ⌜ Largest (between start last) (r .free) × (suc (numberOf (r .end)) ≡ numberOf start + 2 ^ r .free) ⌝ }
+{
+    let zeros = trailing_zeros(start);
+    let whole = last_of(start, zeros);
+    if words_at_most(whole, last) {
+        return Step {
+            free: zeros,
+            end: whole,
+        };
+    }
+    let most = cap(remaining(start, last));
+    let end = last_of(start, most);
+    Step { free: most, end }
+}
+
 // How many prefixes the range has.
 fn count(first: Words, last: Words) -> u32
     requires { ⌜ numberOf first ≤ numberOf last ⌝ }
@@ -140,8 +154,7 @@ fn count(first: Words, last: Words) -> u32
     let mut start = first;
     let mut n: u32 = 1;
     loop {
-        let free = free_bits(start, last);
-        let end = last_of(start, free);
+        let end = prefix_at(start, last).end;
         if words_at_most(last, end) {
             return n;
         }
@@ -204,9 +217,9 @@ fn write(first: Words, last: Words, width: usize, out: &mut [u8]) -> u32
     let mut at: usize = 0;
     let mut n: u32 = 1;
     loop {
-        let free = free_bits(start, last);
-        put_entry(start, free, width, &mut out[at..]);
-        let end = last_of(start, free);
+        let p = prefix_at(start, last);
+        put_entry(start, p.free, width, &mut out[at..]);
+        let end = p.end;
         if words_at_most(last, end) {
             return n;
         }

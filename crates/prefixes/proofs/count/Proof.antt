@@ -35,13 +35,8 @@ module _ (c : tie.Start Inv-loop μ-loop) where
 loop-holds : tie.Need-loop-holds Inv-loop μ-loop
 loop-holds c = (c .pre, omega arith)
 
-free-bits-requires : tie.Need-free-bits-requires Inv-loop μ-loop
-free-bits-requires c κs = c .loop .inv .0
-
-last-of-requires : tie.Need-last-of-requires Inv-loop μ-loop
-last-of-requires c κs =
-    let l = c .free-bits .ensures in
-    (l .0, l .1 .zeros, walk.ends-inside 128 (below (c .before .before)) (l .1))
+prefix-at-requires : tie.Need-prefix-at-requires Inv-loop μ-loop
+prefix-at-requires c κs = c .loop .inv .0
 
 words-at-most-requires : tie.Need-words-at-most-requires Inv-loop μ-loop
 words-at-most-requires c κs = tt
@@ -50,11 +45,11 @@ returns : tie.Need-returns Inv-loop μ-loop
 returns c =
     let turn = c .before .before .before in
     let last = leb-true _ _ (sym (c .before .words-at-most .ensures) ∙ c .if1 .taken) in
-    let one = walk.last-one 128 (below (turn .before .before)) (turn .free-bits .ensures .1) (c .before .before .last-of .ensures) last in
+    let one = walk.last-one 128 (below (turn .before .before)) (turn .prefix-at .ensures .0) (turn .prefix-at .ensures .1) last in
     omega (arith, turn .before .loop .inv .1, ap length one)
 
 -- the prefix at the start ends before the range does
-not-yet : (c : tie.Else1 Inv-loop μ-loop) → numberOf (c .before .before .last-of .result) < numberOf (c .before .before .before .before .before .args .last)
+not-yet : (c : tie.Else1 Inv-loop μ-loop) → numberOf (c .before .before .before .prefix-at .result .end) < numberOf (c .before .before .before .before .before .args .last)
 not-yet c = leb-false _ _ (sym (c .before .words-at-most .ensures) ∙ c .if1 .left)
 
 next-requires : tie.Need-next-requires Inv-loop μ-loop
@@ -64,11 +59,11 @@ next-requires c κs =
 
 more : (c : tie.After-next Inv-loop μ-loop)
     → walked (c .before .before .before .before .before .loop .start) (c .before .before .before .before .before .before .args .last)
-    ≡ prefix (numberOf (c .before .before .before .before .before .loop .start)) (c .before .before .before .before .free-bits .result)
+    ≡ prefix (numberOf (c .before .before .before .before .before .loop .start)) (c .before .before .before .before .prefix-at .result .free)
     ∷ walked (c .next .result) (c .before .before .before .before .before .before .args .last)
 more c =
     let turn = c .before .before .before .before in
-    walk.one-more 128 (below (turn .before .before)) (turn .free-bits .ensures .1) (c .before .before .before .last-of .ensures) (c .next .ensures)
+    walk.one-more 128 (below (turn .before .before)) (turn .prefix-at .ensures .0) (turn .prefix-at .ensures .1) (c .next .ensures)
 
 add-n : tie.Need-add-n Inv-loop μ-loop
 add-n c =
@@ -78,7 +73,7 @@ add-n c =
 loop-less : tie.Need-loop-less Inv-loop μ-loop
 loop-less c =
     let turn = c .before .before .before .before in
-    walk.falls 128 (below (turn .before .before)) (turn .free-bits .ensures .1) (c .before .before .before .last-of .ensures) (c .next .ensures) (not-yet (c .before))
+    walk.falls 128 (below (turn .before .before)) (turn .prefix-at .ensures .0) (turn .prefix-at .ensures .1) (c .next .ensures) (not-yet (c .before))
 
 loop-again : tie.Need-loop-again Inv-loop μ-loop
 loop-again c =
@@ -92,8 +87,7 @@ count-spec =
     Inv-loop
     μ-loop
     loop-holds
-    free-bits-requires
-    last-of-requires
+    prefix-at-requires
     words-at-most-requires
     returns
     next-requires

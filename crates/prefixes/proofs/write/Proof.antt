@@ -40,17 +40,17 @@ module _ (c : tie.Start Inv-loop μ-loop) where
 loop-holds : tie.Need-loop-holds Inv-loop μ-loop
 loop-holds c = let a = c .before in (a .pre .0 .forward, nothing-entered (a .args .width) (walked (a .args .first) (a .args .last)) (now (a .args .out)))
 
-free-bits-requires : tie.Need-free-bits-requires Inv-loop μ-loop
-free-bits-requires c κs = c .loop .inv .0
+prefix-at-requires : tie.Need-prefix-at-requires Inv-loop μ-loop
+prefix-at-requires c κs = c .loop .inv .0
 
 -- the next entry has room
-module _ (c : tie.After-free-bits Inv-loop μ-loop) where
+module _ (c : tie.After-prefix-at Inv-loop μ-loop) where
   abbrev start : tie.Start Inv-loop μ-loop
   start = c .before .before .before
 
   known : walked (c .before .loop .start) (start .args .last)
-      ≡ prefix (numberOf (c .before .loop .start)) (c .free-bits .result) ∷ prefixesOf 128 (from-to (numberOf (c .before .loop .start) + 2 ^ (c .free-bits .result)) (numberOf (start .args .last)))
-  known = first-prefix 128 (between (c .before .loop .start) (start .args .last)) (c .free-bits .result) (below start) (c .free-bits .ensures .1)
+      ≡ prefix (numberOf (c .before .loop .start)) (c .prefix-at .result .free) ∷ prefixesOf 128 (from-to (numberOf (c .before .loop .start) + 2 ^ (c .prefix-at .result .free)) (numberOf (start .args .last)))
+  known = first-prefix 128 (between (c .before .loop .start) (start .args .last)) (c .prefix-at .result .free) (below start) (c .prefix-at .ensures .0)
 
   inside : c .before .loop .at + (start .args .width + 1) ≤ length (c .before .loop .out)
   inside = entry-inside (c .before .loop .inv .1) (start .pre .1) known
@@ -72,15 +72,9 @@ put-entry-requires c κs =
     let turn = c .before in
     let o = start turn .pre .0 in
     (
-      entry-fits (start turn .args .width) (o .wide) (turn .before .loop .inv .0) (o .below) (turn .free-bits .ensures .1),
+      entry-fits (start turn .args .width) (o .wide) (turn .before .loop .inv .0) (o .below) (turn .prefix-at .ensures .0),
       omega (arith, inside turn, rest-length (turn .before .loop .out) (turn .before .loop .at)),
     )
-
-last-of-requires : tie.Need-last-of-requires Inv-loop μ-loop
-last-of-requires c κs =
-    let turn = c .before .before .before .before in
-    let l = turn .free-bits .ensures in
-    (l .0, l .1 .zeros, walk.ends-inside 128 (below (start turn)) (l .1))
 
 words-at-most-requires : tie.Need-words-at-most-requires Inv-loop μ-loop
 words-at-most-requires c κs = tt
@@ -95,11 +89,11 @@ returns c =
     let end = c .before .before in
     let turn = end .before .before .before .before .before in
     let last = leb-true _ _ (sym (c .before .words-at-most .ensures) ∙ c .if1 .taken) in
-    let one = walk.last-one 128 (below (start turn)) (turn .free-bits .ensures .1) (end .last-of .ensures) last in
+    let one = walk.last-one 128 (below (start turn)) (turn .prefix-at .ensures .0) (turn .prefix-at .ensures .1) last in
     all-entered (entered (turn .before .loop .inv .1) (start turn .pre .1) one (end .before .before .before .put-entry .ensures))
 
 -- the prefix at the start ends before the range does
-not-yet : (c : tie.Else1 Inv-loop μ-loop) → numberOf (c .before .before .last-of .result) < numberOf (start (c .before .before .before .before .before .before .before) .args .last)
+not-yet : (c : tie.Else1 Inv-loop μ-loop) → numberOf (c .before .before .before .before .before .before .before .prefix-at .result .end) < numberOf (start (c .before .before .before .before .before .before .before) .args .last)
 not-yet c = leb-false _ _ (sym (c .before .words-at-most .ensures) ∙ c .if1 .left)
 
 next-requires : tie.Need-next-requires Inv-loop μ-loop
@@ -108,12 +102,12 @@ next-requires c κs =
     room 18446744073709551615 _ _ _ _ (most (high s)) (most (low s)) (not-yet c)
 
 module _ (c : tie.After-next Inv-loop μ-loop) where
-  abbrev turn : tie.After-free-bits Inv-loop μ-loop
+  abbrev turn : tie.After-prefix-at Inv-loop μ-loop
   turn = c .before .before .before .before .before .before .before .before
 
   more : walked (turn .before .loop .start) (start turn .args .last)
-      ≡ prefix (numberOf (turn .before .loop .start)) (turn .free-bits .result) ∷ walked (c .next .result) (start turn .args .last)
-  more = walk.one-more 128 (below (start turn)) (turn .free-bits .ensures .1) (c .before .before .before .last-of .ensures) (c .next .ensures)
+      ≡ prefix (numberOf (turn .before .loop .start)) (turn .prefix-at .result .free) ∷ walked (c .next .result) (start turn .args .last)
+  more = walk.one-more 128 (below (start turn)) (turn .prefix-at .ensures .0) (turn .prefix-at .ensures .1) (c .next .ensures)
 
 add-at : tie.Need-add-at Inv-loop μ-loop
 add-at c = omega (arith, short (turn c))
@@ -128,7 +122,7 @@ add-n c =
 
 loop-less : tie.Need-loop-less Inv-loop μ-loop
 loop-less c =
-    walk.falls 128 (below (start (turn c))) (turn c .free-bits .ensures .1) (c .before .before .before .last-of .ensures) (c .next .ensures) (not-yet (c .before))
+    walk.falls 128 (below (start (turn c))) (turn c .prefix-at .ensures .0) (turn c .prefix-at .ensures .1) (c .next .ensures) (not-yet (c .before))
 
 loop-again : tie.Need-loop-again Inv-loop μ-loop
 loop-again c = (
@@ -143,12 +137,11 @@ write-spec =
     Inv-loop
     μ-loop
     loop-holds
-    free-bits-requires
+    prefix-at-requires
     sub-put-entry
     part-put-entry-start
     part-put-entry-end
     put-entry-requires
-    last-of-requires
     words-at-most-requires
     same-length
     returns

@@ -1,0 +1,68 @@
+-- The zeros decide where their prefix ends inside the range, and else what remains.
+use Prim.Native.Nat.{suc, _^_, _<_}
+use mathlib.Core.Path.{sym, _∙_}
+use borrow.Author.Tests.{leb-true, leb-false}
+use Rattle.address.specs.Words.{numberOf}
+use Rattle.cidr.specs.First.{Largest}
+use Rattle.cidr.proofs.Step as step
+use Rattle.prefixes.specs.Entries.{between}
+use Rattle.prefixes.proofs.Walk as walk
+use borrow.Author.Needs.{needs}
+use Rattle.prefixes.proofs.prefix_at.Statement.{statement}
+use Rattle.prefixes.proofs.prefix_at.Tie as tie
+
+below : (c : tie.Start) → numberOf (c .args .last) < 2 ^ 128
+below c = walk.wide {h = c .args .last .high} {l = c .args .last .low} (search needs) (search needs)
+
+trailing-zeros-requires : tie.Need-trailing-zeros-requires
+trailing-zeros-requires c κs = search needs
+
+last-of-requires : tie.Need-last-of-requires
+last-of-requires c κs =
+    let z = c .trailing-zeros .ensures in
+    (step.short 128 _ _ _ z (below (c .before)), step.aligned 128 _ _ _ z (below (c .before)), step.ends 128 _ _ _ z (below (c .before)) (c .before .pre))
+
+words-at-most-requires : tie.Need-words-at-most-requires
+words-at-most-requires c κs = search needs
+
+returns : tie.Need-returns
+returns c =
+    let end = c .before .before .last-of .ensures in
+    let inside = leb-true _ _ (sym (c .before .words-at-most .ensures) ∙ c .if1 .taken) in
+    let start = c .before .before .before in
+    (step.by-zeros 128 _ _ _ (start .trailing-zeros .ensures) (below (start .before)) (walk.ends-by end inside), end)
+
+remaining-requires : tie.Need-remaining-requires
+remaining-requires c κs = search needs
+
+cap-requires : tie.Need-cap-requires
+cap-requires c κs = search needs
+
+-- where the zeros allow more than remains
+largest : (c : tie.After-cap) → Largest (between (c .before .before .before .before .before .before .args .start) (c .before .before .before .before .before .before .args .last)) (c .cap .result)
+largest c =
+    let start = c .before .before .before .before .before in
+    let beyond = leb-false _ _ (sym (c .before .before .before .words-at-most .ensures) ∙ c .before .before .if1 .left) in
+    step.by-room 128 _ _ _ (start .trailing-zeros .ensures) (below (start .before)) (c .before .remaining .ensures) (c .cap .ensures .1)
+    (walk.ends-after (c .before .before .before .before .last-of .ensures) beyond)
+
+last-of-requires-2 : tie.Need-last-of-requires-2
+last-of-requires-2 c κs =
+    let l = largest c in
+    (c .cap .ensures .0, l .zeros, walk.ends-inside 128 (below (c .before .before .before .before .before .before)) l)
+
+returns-2 : tie.Need-returns-2
+returns-2 c = (largest (c .before), c .last-of2 .ensures)
+
+pub prefix-at-spec : {M : Type 1} → statement M
+prefix-at-spec =
+    tie.close
+    (tie.spec
+    trailing-zeros-requires
+    last-of-requires
+    words-at-most-requires
+    returns
+    remaining-requires
+    cap-requires
+    last-of-requires-2
+    returns-2)
