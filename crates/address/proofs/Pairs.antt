@@ -82,7 +82,7 @@ module _ (last : ℕ) where
   high-next h l e = rw e (omega arith)
 
   -- there is one, where another number is greater
-  pub room : (h l g m : ℕ) → g ≤ last → m ≤ last → h * suc last + l < g * suc last + m → l ≡ last → h < last
+  pub room : (h l g m : ℕ) → g < suc last → m < suc last → h * suc last + l < g * suc last + m → l ≡ last → h < last
   room h l g m q r k e = go (decLt h last)
     where
       go : Dec (h < last) → h < last

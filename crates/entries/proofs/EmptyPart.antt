@@ -1,62 +1,81 @@
--- The second call's part is empty exactly where there is no record: rule 5 leaves no empty handle or name.
-use Prim.Native.Nat.{ℕ, zero, suc, _<_}
-use mathlib.Core.Bool.{Bool, true, false, cond, _&&_}
-use mathlib.Core.Path.{_≡_, refl, subst}
-use mathlib.Core.List.{List, [], _∷_}
+-- A part is empty exactly where there is no record that has it: rule 5 leaves no empty handle or name, rule 4 no empty range of a block.
+use Prim.Native.Nat.{ℕ, _+_, _*_, _≤_, _<_}
+use mathlib.Core.Bool.{Bool, true, false, cond, _&&_, _||_, true≢false}
+use mathlib.Core.Logic.{_↔_}
+use mathlib.Core.Path.{_≡_, refl, sym, ap, _∙_}
+use mathlib.Core.List.{List, []}
+use native.Mathlib.Decide.{decLt}
 use native.Mathlib.Omega.{arith}
-use lib.Dec.{T, leb}
-use lib.ListN.{length, drop}
-use Rattle.address.specs.Lists.{within, every}
+use lib.Dec.{T, eqb, leb}
+use lib.ListN.{length, take, drop, drop-of-length-le}
+use lib.Seq.{slice-empty, length-slice}
+use Rattle.address.specs.Lists.{within, every, any}
 use Rattle.address.specs.Number.{value}
 use Rattle.address.specs.Ranges.{wellFormed}
 use Rattle.pieces.specs.Split.{split}
+use Rattle.pieces.proofs.Tests.{and-left, and-right, within-high}
 use Rattle.name.specs.Host.{isLabel, isHostName}
 use Rattle.name.specs.Texts.{goodText, goodHost}
-use Rattle.records.specs.Record.{Record, rangeOf, goodName, goodContents}
-use Rattle.image.specs.Image.{Image, sound, defective, imageOf}
-use Rattle.image.specs.Part.{recordsOf, textOf, textOfFirst, excerptOf, EmptyPart}
+use Rattle.records.specs.Record.{Record, isBlock, widthOf, rangeOf, goodName, goodTexts, goodContents}
+use Rattle.records.specs.Place.{rangeSpan}
+use Rattle.image.specs.Image.{imageOf}
+use Rattle.image.specs.Part.{recordsOf, contentsOf, contentsOfFirst, excerptOf, has, EmptyPart}
+use Rattle.image.specs.Entries.{placeOf, contentsSpan}
+use Rattle.image.specs.Index.{tagOf, Standing}
 use Rattle.image.specs.declared.Which.{Which}
-use Rattle.image.specs.declared.Which.the-variants.{Handle, Name}
-use Rattle.image.proofs.Sound.{Later, done, next, records-later}
+use Rattle.image.specs.declared.Which.the-variants.{Range, Handle, Name}
+use Rattle.entries.proofs.Standing.{standing}
 
-and-both : (a b : Bool) → T (a && b) → T a × T b
-and-both true b t = (tt, t)
-and-both false b t = absurd t
-
-empty-text : (low : ℕ) → T (goodText low []) → ⊥
+empty-text : (low : ℕ) → goodText low [] ≡ true → ⊥
 unfolding goodText
-empty-text low t = t
+empty-text low e = true≢false (sym e)
 
-empty-name : (tag : ℕ) → T (goodName tag []) → ⊥
+empty-name : (tag : ℕ) → goodName tag [] ≡ true → ⊥
 unfolding goodName goodHost isHostName split every isLabel goodText
-empty-name tag t = go (within 0x13 0x14 tag) t
+empty-name tag e = go (within 0x13 0x14 tag) e
   where
-    go : (v : Bool) → T (cond v (goodHost []) (goodText 0x20 [])) → ⊥
-    go true x = x
-    go false x = x
+    go : (v : Bool) → cond v (goodHost []) (goodText 0x20 []) ≡ true → ⊥
+    go true x = true≢false (sym x)
+    go false x = true≢false (sym x)
 
-not-empty : (which : Which) (r : Record) → T (goodContents r) → textOf which r ≡ [] → ⊥
-unfolding goodContents
-not-empty which r t e = go which e (and-both (goodText 0x21 (r .handle) && goodName (r .tag) (r .name)) (leb (value (r .status)) 1 && wellFormed (rangeOf r)) t .0)
-  where
-    go : (which : Which) → textOf which r ≡ [] → T (goodText 0x21 (r .handle) && goodName (r .tag) (r .name)) → ⊥
-    go Handle e x = empty-text 0x21 (subst (λ (s : List ℕ). T (goodText 0x21 s)) e (and-both (goodText 0x21 (r .handle)) (goodName (r .tag) (r .name)) x .0))
-    go Name e x = empty-name (r .tag) (subst (λ (s : List ℕ). T (goodName (r .tag) s)) e (and-both (goodText 0x21 (r .handle)) (goodName (r .tag) (r .name)) x .1))
+-- of a record that stands in a sound image
+module _ (s : List ℕ) (n : ℕ) (k : Standing s n) where
+  texts : goodTexts (k .r) ≡ true
+  unfolding goodContents
+  texts = and-left (goodTexts (k .r)) (leb (value (k .r .status)) 1 && wellFormed (rangeOf (k .r))) (k .good)
 
-present : {earlier later : List Record} → Later earlier later → (n : ℕ) (which : Which) → n < length later → textOfFirst which (drop n later) ≡ [] → ⊥
-present done n which h e = omega arith
-present (next {r = r} a s) zero which h e = not-empty which r (a .contents) e
-present (next a s) (suc n) which h e = present s n which (omega arith) e
+  -- the range of a block has two addresses or numbers
+  some-bytes : (tag : ℕ) → 1 ≤ 2 * widthOf tag
+  some-bytes tag = go (eqb tag 0x11)
+    where
+      go : (v : Bool) → 1 ≤ 2 * cond v 16 4
+      go true = omega arith
+      go false = omega arith
 
-absent : (n : ℕ) (which : Which) (records : List Record) → (n < length records → ⊥) → textOfFirst which (drop n records) ≡ []
-absent zero which [] h = refl
-absent (suc n) which [] h = refl
-absent zero which (r ∷ records) h = absurd (h (omega arith))
-absent (suc n) which (r ∷ records) h = absent n which records (λ k. h (omega arith))
+  ranged : isBlock (k .r .tag) ≡ true → k .r .range ≡ [] → ⊥
+  ranged b e =
+      let h = within-high 0x10 0x12 (k .r .tag) b in
+      let block : tagOf s n ≤ 18 = omega (arith, k .tag) in
+      let from = placeOf s n + 6 in
+      omega (arith, length-slice from (from + 2 * widthOf (tagOf s n)) s (k .range-inside block), ap length (k .range block ∙ e), some-bytes (tagOf s n))
+
+  no-range : isBlock (k .r .tag) ≡ false → k .r .range ≡ []
+  unfolding contentsSpan rangeSpan
+  no-range b = sym (k .contents Range) ∙ rw (k .field-here, k .tag, b) (slice-empty 0 s)
+
+  part : (which : Which) → (contentsOf which (k .r) ≡ []) ↔ (has which (k .r) || false ≡ false)
+  part Range = go (isBlock (k .r .tag)) refl
+    where
+      go : (v : Bool) → isBlock (k .r .tag) ≡ v → (k .r .range ≡ []) ↔ (v || false ≡ false)
+      go true b = (λ e. absurd (ranged b e), λ e. absurd (true≢false e))
+      go false b = (λ e. refl, λ e. no-range b)
+  part Handle = (λ e. absurd (empty-text 0x21 (rw e at (and-left (goodText 0x21 (k .r .handle)) (goodName (k .r .tag) (k .r .name)) texts))), λ e. absurd (true≢false e))
+  part Name = (λ e. absurd (empty-name (k .r .tag) (rw e at (and-right (goodText 0x21 (k .r .handle)) (goodName (k .r .tag) (k .r .name)) texts))), λ e. absurd (true≢false e))
 
 pub empty-part : EmptyPart
-empty-part image n which = (λ e h. go (imageOf image) refl e h, λ h. absent n which (recordsOf (imageOf image)) h)
+empty-part image n which = go (decLt n (length (recordsOf (imageOf image))))
   where
-    go : (x : Image) → imageOf image ≡ x → excerptOf x n which ≡ [] → n < length (recordsOf x) → ⊥
-    go (sound records) p e h = present (records-later image records p) n which h e
-    go (defective d place) p e h = omega arith
+    go : Dec (n < length (recordsOf (imageOf image)))
+        → (excerptOf (imageOf image) n which ≡ []) ↔ (any (has which) (take 1 (drop n (recordsOf (imageOf image)))) ≡ false)
+    go (yes h) = let k = standing image n h in rw (k .here) (part image n k which)
+    go (no h) = rw (drop-of-length-le (recordsOf (imageOf image)) {i = n} (omega arith)) (λ e. refl, λ e. refl)

@@ -1,4 +1,4 @@
--- The second call in positions: what the code reads where a record starts is what the definition reads there (`text-read`), and has the part
+-- The second call in positions: what the code reads where a record starts is what the definition reads there (`contents-read`), and has the part
 -- of the record of the number (`span-some`); without such a record the part is empty. So the span of the definition has the part (`span-is-part`).
 use mathlib.Core.Path.{_≡_, refl, sym, _∙_, ap, subst}
 use mathlib.Core.List.{List}
@@ -14,29 +14,29 @@ use Rattle.fields.specs.declared.Field.{Field}
 use Rattle.fields.specs.declared.Field.the-variants.{Whole, Short}
 use Rattle.records.specs.declared.Span.{Span}
 use Rattle.image.specs.Image.{Image, sound, defective, imageOf}
-use Rattle.image.specs.Part.{recordsOf, textOfFirst}
+use Rattle.image.specs.Part.{recordsOf, contentsOfFirst}
 use Rattle.image.specs.Place.{verdictOf}
-use Rattle.image.specs.Entries.{placeOf, textIn, textSpan, spanOf, PartSpan, SpanIsPart}
+use Rattle.image.specs.Entries.{placeOf, contentsIn, contentsSpan, spanOf, PartSpan, SpanIsPart}
 use Rattle.image.specs.Index.{Standing}
 use Rattle.image.specs.declared.Which.{Which}
 use Rattle.image.specs.declared.Verdict.{Verdict}
 use Rattle.image.specs.declared.Verdict.the-variants.{Sound, Defective}
 use Rattle.image.proofs.Soundness.{counted}
-use Rattle.entries.proofs.Standing.{standing-of, text-in-image}
+use Rattle.entries.proofs.Standing.{standing-of, contents-in-image}
 
 -- the field at a position, as a reader finds it
 module _ (s : List ℕ) (at : ℕ) (f : Field) (e : f ≡ fieldAt s at (length s)) where
-  pub no-text : f ≡ Short → (which : Which) → record { start = 0; end = 0 } ≡ textSpan which s at
-  unfolding textSpan
-  no-text k which = rw (← e, k)
+  pub no-contents : f ≡ Short → (which : Which) → record { start = 0; end = 0 } ≡ contentsSpan which s at
+  unfolding contentsSpan
+  no-contents k which = rw (← e, k)
 
   module _ (tag start end : ℕ) (k : f ≡ Whole tag start end) where
     pub end-inside : end ≤ length s
     end-inside = field-inside s at (length s) tag start end (sym e ∙ k) .within
 
-    pub text-read : (which w : Which) → which ≡ w → {x : Span} → x ≡ textIn w s (Whole tag start end) → x ≡ textSpan which s at
-    unfolding textSpan
-    text-read which w h z = rw (h, ← e, k) z
+    pub contents-read : (which w : Which) → which ≡ w → {x : Span} → x ≡ contentsIn w s (Whole tag start end) → x ≡ contentsSpan which s at
+    unfolding contentsSpan
+    contents-read which w h z = rw (h, ← e, k) z
 
 pub defective-none : (i : Image) (v : Verdict) (d p : ℕ) → v ≡ verdictOf i → v ≡ Defective d p → length (recordsOf i) ≡ 0
 defective-none (sound records) v d p e f = let z : _≡_ {A = ℕ} 0 1 = cc in absurd (omega arith)
@@ -47,7 +47,7 @@ module _ (s : List ℕ) (n : ℕ) (which : Which) where
   unfolding spanOf
   span-none h = record {
     same = rw (le-ltb n (length (recordsOf (imageOf s))) h);
-    text = slice-empty 0 s ∙ rw (drop-of-length-le (recordsOf (imageOf s)) h);
+    bytes = slice-empty 0 s ∙ rw (drop-of-length-le (recordsOf (imageOf s)) h);
     inside = record { forward = omega arith; within = omega arith };
   }
 
@@ -55,17 +55,17 @@ module _ (s : List ℕ) (n : ℕ) (which : Which) where
     pub span-beyond : count ≤ n → PartSpan s n which (record { start = 0; end = 0 })
     span-beyond h = span-none (omega (arith, counted (imageOf s) count e))
 
-    span-there : n < count → PartSpan s n which (textSpan which s (placeOf s n))
+    span-there : n < count → PartSpan s n which (contentsSpan which s (placeOf s n))
     unfolding spanOf
     span-there h =
         let k : Standing s n = standing-of s count e n h in
         record {
           same = rw (lt-ltb n (length (recordsOf (imageOf s))) (omega (arith, counted (imageOf s) count e)));
-          text = k .text which ∙ sym (ap (textOfFirst which) (k .here));
-          inside = text-in-image k which;
+          bytes = k .contents which ∙ sym (ap (contentsOfFirst which) (k .here));
+          inside = contents-in-image k which;
         }
 
-    pub span-some : n < count → (place : ℕ) → place ≡ placeOf s n → (x : Span) → x ≡ textSpan which s place → PartSpan s n which x
+    pub span-some : n < count → (place : ℕ) → place ≡ placeOf s n → (x : Span) → x ≡ contentsSpan which s place → PartSpan s n which x
     span-some h place p x z = rw (z, p) (span-there h)
 
 pub span-is-part : SpanIsPart

@@ -1,4 +1,4 @@
--- Every record of a sound image stands where it starts, and its handle and its name lie in it.
+-- Every record of a sound image stands where it starts, and its range, its handle and its name lie in it.
 use mathlib.Core.Path.{_≡_, sym, _∙_}
 use mathlib.Core.Bool.{true}
 use mathlib.Core.List.{List}
@@ -17,12 +17,12 @@ use Rattle.records.specs.Place.{bytesOf, Inside}
 use Rattle.records.proofs.Shapes.{a-block}
 use Rattle.records.proofs.Laid.{Laid, laid}
 use Rattle.image.specs.Image.{imageOf}
-use Rattle.image.specs.Part.{recordsOf, textOf}
+use Rattle.image.specs.Part.{recordsOf, contentsOf}
 use Rattle.image.specs.Place.{verdictOf}
-use Rattle.image.specs.Entries.{placeOf, textIn, textSpan}
+use Rattle.image.specs.Entries.{placeOf, contentsIn, contentsSpan}
 use Rattle.image.specs.Index.{tagOf, Standing, Indexed}
 use Rattle.image.specs.declared.Which.{Which}
-use Rattle.image.specs.declared.Which.the-variants.{Handle, Name}
+use Rattle.image.specs.declared.Which.the-variants.{Range, Handle, Name}
 use Rattle.image.specs.declared.Verdict.the-variants.{Sound}
 use Rattle.image.proofs.Soundness.{counted}
 use Rattle.entries.proofs.Numbered.{stands-here}
@@ -36,18 +36,20 @@ range-read s at w =
     let y : take w (drop (at + w) s) ≡ slice (at + w) (at + 2 * w) s = rw b at (part-slice (at + w) (at + 2 * w) s (omega arith)) in
     rw (number-at s at w, number-at s (at + w) w, x, y, take-slice w at (at + 2 * w) s (omega arith), drop-slice w at (at + 2 * w) s)
 
--- the handle or the name of a record that lies in a field
+-- the parts of a record that lies in a field
 module _ {s : List ℕ} {tag start end : ℕ} {r : Record} (l : Laid s tag start end r) where
-  text-laid : (which : Which) → bytesOf s (textIn which s (Whole tag start end)) ≡ textOf which r
-  text-laid Handle = l .handle
-  text-laid Name = l .name
+  contents-laid : (which : Which) → bytesOf s (contentsIn which s (Whole tag start end)) ≡ contentsOf which r
+  contents-laid Range = l .range-span
+  contents-laid Handle = l .handle
+  contents-laid Name = l .name
 
-  inside-laid : (which : Which) → Inside end (textIn which s (Whole tag start end))
+  inside-laid : (which : Which) → Inside end (contentsIn which s (Whole tag start end))
+  inside-laid Range = l .range-span-inside
   inside-laid Handle = l .handle-inside
   inside-laid Name = l .name-inside
 
 pub standing : (s : List ℕ) (i : ℕ) → i < length (recordsOf (imageOf s)) → Standing s i
-unfolding tagOf textSpan
+unfolding tagOf contentsSpan
 standing s i h =
     let x = stands-here s i h in
     let l = laid s (x .tag) (x .start) (x .end) (x .r) (x .inside .forward) (x .inside .within) (x .accepted .parsed) in
@@ -61,25 +63,26 @@ standing s i h =
       here = x .listed;
       field-here = rw (← u, ← v) (x .field-here);
       tag = sym u ∙ sym (l .own-tag);
+      good = x .accepted .good-contents;
       low = rw (← u) (x .accepted .low);
       high = rw (← u) (x .accepted .high);
       within = omega (arith, v, x .inside .forward, x .inside .within);
       range-inside = rw (← u, ← w, ← v) (λ z. le-trans (l .range-inside (block z)) (x .inside .within));
       range = rw (← u, ← w, ← v) (λ z. l .range (block z));
       range-numbers = rw (← u, ← w, ← v) (λ z. range-read s (x .start + 3) (widthOf (x .tag)) ∙ rw (l .range (block z), l .own-tag));
-      text = rw (x .field-here) (text-laid l);
-      text-inside = rw (x .field-here) (inside-laid l);
+      contents = rw (x .field-here) (contents-laid l);
+      contents-inside = rw (x .field-here) (inside-laid l);
     }
 
 -- the same by the verdict
 pub standing-of : (s : List ℕ) (count : ℕ) → verdictOf (imageOf s) ≡ Sound count → (i : ℕ) → i < count → Standing s i
 standing-of s count v i h = standing s i (omega (arith, counted (imageOf s) count v))
 
--- the handle or the name lies in the record, and so in the image
-pub text-in-image : {s : List ℕ} {i : ℕ} → Standing s i → (which : Which) → Inside (length s) (textSpan which s (placeOf s i))
-text-in-image {s} {i} x which =
+-- a part lies in the record, and so in the image
+pub contents-in-image : {s : List ℕ} {i : ℕ} → Standing s i → (which : Which) → Inside (length s) (contentsSpan which s (placeOf s i))
+contents-in-image {s} {i} x which =
     let k = field-inside s (placeOf s i) (length s) _ _ _ (x .field-here) in
-    let l = x .text-inside which in
+    let l = x .contents-inside which in
     record { forward = l .forward; within = le-trans (l .within) (k .within) }
 
 -- by the index: the place noted of a record holds its tag

@@ -1,9 +1,9 @@
-// The records of a sound image by their tags and numbers: those with a tag, and the handle or the name of one.
+// The records of a sound image by their tags and numbers: those with a tag, and the range, the handle or the name of one.
 ghost use mathlib.Core.Path.{_≡_};
 ghost use Prim.Native.Nat.{_+_, _-_, _/_, _≤_, _<_};
 ghost use Rattle.image.specs.Image.{imageOf};
 ghost use Rattle.image.specs.Part.{excerptOf, PartFrom};
-ghost use Rattle.image.specs.Entries.{textSpan, spanOf, PartSpan};
+ghost use Rattle.image.specs.Entries.{contentsSpan, spanOf, PartSpan};
 ghost use Rattle.image.specs.Index.{Indexed, FirstFrom, RunOf};
 use fields::Field;
 use fields::read;
@@ -14,6 +14,7 @@ use image::index;
 use records::Span;
 use records::handle_span;
 use records::name_span;
+use records::range_span;
 
 // The middle of what is left to a search by halves: at most half of it lies before, and at most half behind.
 pub fn middle(low: u32, high: u32) -> u32
@@ -55,20 +56,21 @@ pub fn run_of(image: &[u8], places: &[u32; 4096], count: u32, first: u8, last: u
     }
 }
 
-// Where the handle or the name of the record at a position is; from 0 up to 0 if no field stands there.
-pub fn text_span(image: &[u8], at: usize, which: Which) -> Span
-    ensures { λ r. ⌜ r ≡ textSpan which (now (image .entry)) at ⌝ }
+// Where a part of the record at a position is; from 0 up to 0 if no field stands there.
+pub fn contents_span(image: &[u8], at: usize, which: Which) -> Span
+    ensures { λ r. ⌜ r ≡ contentsSpan which (now (image .entry)) at ⌝ }
 {
     let Field::Whole { tag, start, end } = read(image, at) else {
         return Span { start: 0, end: 0 };
     };
     match which {
+        Which::Range => range_span(image, tag, start, end),
         Which::Handle => handle_span(image, tag, start, end),
         Which::Name => name_span(image, tag, start, end),
     }
 }
 
-// Where the handle or the name of a record is in the image; from 0 up to 0 if the image is defective or there is no such record.
+// Where a part of a record is in the image; from 0 up to 0 if the image is defective or there is no such record.
 pub fn part_span(image: &[u8], number: u32, which: Which) -> Span
     ensures { λ r. ⌜ PartSpan (now (image .entry)) number which r ⌝ }
 {
@@ -79,10 +81,10 @@ pub fn part_span(image: &[u8], number: u32, which: Which) -> Span
     if count <= number {
         return Span { start: 0, end: 0 };
     }
-    text_span(image, places[number as usize] as usize, which)
+    contents_span(image, places[number as usize] as usize, which)
 }
 
-// The handle or the name of a record as a part of the image; empty if the image is defective or there is no such record.
+// A part of a record as a part of the image; empty if the image is defective or there is no such record.
 pub fn part(image: &[u8], number: u32, which: Which) -> &[u8]
     ensures { λ r. ⌜ PartFrom (image .entry) (spanOf (now (image .entry)) number which .start) (excerptOf (imageOf (now (image .entry))) number which) r ⌝ }
 {

@@ -1,10 +1,10 @@
 -- Opens the definitions of this crate and of those below it, for theorems that hold by computing: `unfolding computing`.
 use Rattle.records.specs.Computing as Records
 use Rattle.image.specs.Image.{imageFrom, startsRight, imageOf}
-use Rattle.image.specs.Entries.{placeOf, textSpan, spanOf}
+use Rattle.image.specs.Entries.{placeOf, contentsSpan, spanOf}
 use Rattle.image.specs.Index.{tagOf}
 use Rattle.image.specs.Place.{placeOn}
 
 unfoldable pub computing : Unit {0}
-unfolding Records.computing imageFrom startsRight imageOf placeOf textSpan spanOf tagOf placeOn
+unfolding Records.computing imageFrom startsRight imageOf placeOf contentsSpan spanOf tagOf placeOn
 computing = tt

@@ -1,5 +1,5 @@
--- Serves contracts and proofs. The records of a sound image by their numbers: where each stands, and where its handle and name are, which
--- `SpanIsPart` ties to the second call (S2.2).
+-- Serves contracts and proofs. The records of a sound image by their numbers: where each stands, and where its range, handle and name are,
+-- which `SpanIsPart` ties to the calls that hand back a part (S2.2, S2.7).
 use mathlib.Core.Bool.{cond}
 use mathlib.Core.Path.{_≡_, refl}
 use mathlib.Core.List.{List}
@@ -10,12 +10,12 @@ use lib.Seq.{slice}
 use Rattle.fields.specs.Place.{fieldAt, passed}
 use Rattle.fields.specs.declared.Field.{Field}
 use Rattle.fields.specs.declared.Field.the-variants.{Whole, Short}
-use Rattle.records.specs.Place.{handleSpan, nameSpan, Inside}
+use Rattle.records.specs.Place.{rangeSpan, handleSpan, nameSpan, Inside}
 use Rattle.records.specs.declared.Span.{Span}
 use Rattle.image.specs.Image.{imageOf}
 use Rattle.image.specs.Part.{recordsOf, excerptOf}
 use Rattle.image.specs.declared.Which.{Which}
-use Rattle.image.specs.declared.Which.the-variants.{Handle, Name}
+use Rattle.image.specs.declared.Which.the-variants.{Range, Handle, Name}
 
 -- where record i stands: i fields after the start of four bytes
 unfoldable pub placeOf : List ℕ → ℕ → ℕ
@@ -25,27 +25,28 @@ pub place-start : (s : List ℕ) → 4 ≡ placeOf s 0
 unfolding placeOf passed
 place-start s = refl
 
--- the handle or the name of the record that a field is; 0 and 0 if it is none
-abbrev pub textIn : Which → List ℕ → Field → Span
-textIn which s Short = record { start = 0; end = 0 }
-textIn Handle s (Whole tag start end) = handleSpan s tag start end
-textIn Name s (Whole tag start end) = nameSpan s tag start end
+-- a part of the record that a field is; 0 and 0 if it is none
+abbrev pub contentsIn : Which → List ℕ → Field → Span
+contentsIn which s Short = record { start = 0; end = 0 }
+contentsIn Range s (Whole tag start end) = rangeSpan s tag start end
+contentsIn Handle s (Whole tag start end) = handleSpan s tag start end
+contentsIn Name s (Whole tag start end) = nameSpan s tag start end
 
 -- of the record at a position
-unfoldable pub textSpan : Which → List ℕ → ℕ → Span
-textSpan which s at = textIn which s (fieldAt s at (length s))
+unfoldable pub contentsSpan : Which → List ℕ → ℕ → Span
+contentsSpan which s at = contentsIn which s (fieldAt s at (length s))
 
--- Where the handle or the name of a record starts and ends in the image; 0 and 0 if the image is defective or there is no such record.
+-- Where a part of a record starts and ends in the image; 0 and 0 if the image is defective or there is no such record.
 unfoldable pub spanOf : List ℕ → ℕ → Which → Span
 spanOf s n which =
-    cond (ltb n (length (recordsOf (imageOf s)))) (textSpan which s (placeOf s n)) (record { start = 0; end = 0 })
+    cond (ltb n (length (recordsOf (imageOf s)))) (contentsSpan which s (placeOf s n)) (record { start = 0; end = 0 })
 
--- the second call in positions
+-- such a part in positions
 pub record PartSpan (s : List ℕ) (n : ℕ) (which : Which) (r : Span) : Type 0 where
   pub same : r ≡ spanOf s n which
-  pub text : slice (r .start) (r .end) s ≡ excerptOf (imageOf s) n which
+  pub bytes : slice (r .start) (r .end) s ≡ excerptOf (imageOf s) n which
   pub inside : Inside (length s) r
 
--- What stands there is the part of the second call. Proved in proofs/Spans.antt.
+-- What stands there is the part. Proved in proofs/Spans.antt.
 abbrev pub SpanIsPart : Type 0
 SpanIsPart = (s : List ℕ) (n : ℕ) (which : Which) → PartSpan s n which (spanOf s n which)

@@ -1,17 +1,18 @@
 -- Serves contracts and proofs. The records of a sound image by their numbers, found by an index of where each starts.
+use mathlib.Core.Bool.{true}
 use mathlib.Core.Path.{_≡_}
 use mathlib.Core.List.{List, _∷_}
 use Prim.Native.Nat.{ℕ, _+_, _*_, _≤_, _<_}
 use lib.ListN.{length, drop, getD}
 use lib.Seq.{slice}
 use Rattle.address.specs.Address.{numbers, rangeAt}
-use Rattle.records.specs.Record.{Record, widthOf, rangeOf}
+use Rattle.records.specs.Record.{Record, widthOf, rangeOf, goodContents}
 use Rattle.fields.specs.Place.{fieldAt}
 use Rattle.fields.specs.declared.Field.the-variants.{Whole}
 use Rattle.records.specs.Place.{bytesOf, Inside}
 use Rattle.image.specs.Image.{imageOf}
-use Rattle.image.specs.Part.{recordsOf, textOf}
-use Rattle.image.specs.Entries.{placeOf, textSpan}
+use Rattle.image.specs.Part.{recordsOf, contentsOf}
+use Rattle.image.specs.Entries.{placeOf, contentsSpan}
 use Rattle.image.specs.Place.{verdictOf}
 use Rattle.image.specs.declared.Verdict.{Verdict}
 use Rattle.image.specs.declared.Verdict.the-variants.{Sound}
@@ -29,14 +30,15 @@ pub record Standing (s : List ℕ) (i : ℕ) : Type 0 where
   pub here : drop i (recordsOf (imageOf s)) ≡ r ∷ drop (i + 1) (recordsOf (imageOf s))
   pub field-here : fieldAt s (placeOf s i) (length s) ≡ Whole (tagOf s i) (placeOf s i + 3) end
   pub tag : tagOf s i ≡ r .tag
+  pub good : goodContents r ≡ true
   pub low : 16 ≤ tagOf s i
   pub high : tagOf s i ≤ 21
   pub within : placeOf s i + 3 ≤ length s
   pub range-inside : tagOf s i ≤ 18 → placeOf s i + 6 + 2 * widthOf (tagOf s i) ≤ length s
   pub range : tagOf s i ≤ 18 → slice (placeOf s i + 6) (placeOf s i + 6 + 2 * widthOf (tagOf s i)) s ≡ r .range
   pub range-numbers : tagOf s i ≤ 18 → numbers (rangeAt s (placeOf s i + 6) (widthOf (tagOf s i))) ≡ rangeOf r
-  pub text : (which : Which) → bytesOf s (textSpan which s (placeOf s i)) ≡ textOf which r
-  pub text-inside : (which : Which) → Inside end (textSpan which s (placeOf s i))
+  pub contents : (which : Which) → bytesOf s (contentsSpan which s (placeOf s i)) ≡ contentsOf which r
+  pub contents-inside : (which : Which) → Inside end (contentsSpan which s (placeOf s i))
 
 -- The image is sound and has so many records, and `places` says where each starts.
 pub record Indexed (s : List ℕ) (count : ℕ) (places : List ℕ) : Type 0 where

@@ -16,8 +16,11 @@ use Rattle.address.specs.Ranges.{rangeFrom, wellFormed}
 use Rattle.address.specs.Words.{numberOf}
 use Rattle.address.specs.declared.Words.{Words}
 use Rattle.address.proofs.Digits.{part-is, value-below}
+use Rattle.cidr.specs.Shortest.{Shortest}
+use Rattle.cidr.proofs.Theorem.{shortest}
 use Rattle.prefixes.specs.declared.Prefixed.{Prefixed}
 use Rattle.prefixes.specs.Call.{IpRange, entriesOf, ipRange, ipRangeOf, prefixesIn, entriesIn, prefixedOf, bufferAfter}
+use Rattle.prefixes.specs.Answers.{AnswersShortest}
 use Rattle.prefixes.specs.Entries.{between, walked, Ordered}
 use Rattle.prefixes.proofs.Room.{at-width}
 
@@ -88,3 +91,24 @@ pub neither : (s out : List ℕ) → (length s ≡ 8 → ⊥) → (length s ≡ 
     → (record { reason = 6; count = 0 } ≡ prefixedOf (ipRangeOf s) (length out)) × (out ≡ bufferAfter (ipRangeOf s) out)
 unfolding ipRangeOf prefixedOf bufferAfter
 neither s out e f = rw (ne-eqb (length s) 8 e, ne-eqb (length s) 32 f) (refl, refl)
+
+-- Every answer is the shortest list
+of-width : (s : List ℕ) (width : ℕ) → length s ≡ 2 * width → Bytes s → (a : IpRange) → ipRange width s ≡ some a → Shortest (8 * a .width) (a .range) (prefixesIn a)
+unfolding ipRange prefixesIn
+of-width s width e b a f = go (wellFormed (rangeFrom width s)) f
+  where
+    go : (u : Bool) → cond u (some (record { width = width; range = rangeFrom width s })) none ≡ some a → Shortest (8 * a .width) (a .range) (prefixesIn a)
+    go true f =
+        let z : record { width = width; range = rangeFrom width s } ≡ a = cc in
+        subst (λ (x : IpRange). Shortest (8 * x .width) (x .range) (prefixesIn x)) z (shortest (8 * width) (rangeFrom width s) (last-below s width e b))
+    go false f = let z : _≡_ {A = ℕ} 0 1 = cc in absurd (omega arith)
+
+pub answers-shortest : AnswersShortest
+unfolding ipRangeOf
+answers-shortest s a b e = go (eqb (length s) 8) (eqb (length s) 32) refl refl e
+  where
+    go : (u v : Bool) → eqb (length s) 8 ≡ u → eqb (length s) 32 ≡ v → cond u (ipRange 4 s) (cond v (ipRange 16 s) none) ≡ some a
+        → Shortest (8 * a .width) (a .range) (prefixesIn a)
+    go true v p q f = of-width s 4 (eqb-true (length s) 8 p) b a f
+    go false true p q f = of-width s 16 (eqb-true (length s) 32 q) b a f
+    go false false p q f = let z : _≡_ {A = ℕ} 0 1 = cc in absurd (omega arith)

@@ -8,6 +8,7 @@ use lib.ListN.{length, length-append}
 use Rattle.address.specs.Number.{value, valueFrom}
 use Rattle.address.proofs.Digits.{append-from}
 use Rattle.prefixes.specs.Call.{bigEndian}
+use Rattle.prefixes.specs.Answers.{BytesReadBack}
 
 pub length-bytes : (n v : ℕ) → length (bigEndian n v) ≡ n
 unfolding bigEndian
@@ -51,10 +52,10 @@ four-bytes v =
     rw (a, b)
 
 -- a number is read back from its bytes
-pub value-bytes : (n v : ℕ) → v < 256 ^ n → value (bigEndian n v) ≡ v
+pub read-back : BytesReadBack
 unfolding bigEndian value valueFrom
-value-bytes zero v h = omega (arith, h)
-value-bytes (suc n) v h =
+read-back zero v h = omega (arith, h)
+read-back (suc n) v h =
     let b : v < 256 ^ n * 256 = rw (pow-suc 256 n) at h in
-    let e : value (bigEndian n (v / 256)) ≡ v / 256 = value-bytes n (v / 256) (omega arith) in
+    let e : value (bigEndian n (v / 256)) ≡ v / 256 = read-back n (v / 256) (omega arith) in
     append-from 0 (bigEndian n (v / 256)) (v % 256 ∷ []) ∙ omega (arith, e)

@@ -7,7 +7,8 @@ ghost use Rattle.answers.specs.Reply.{listAfter};
 ghost use Rattle.calls.specs.Calls.{answerOf, relationOf};
 ghost use Rattle.batch.specs.Batch.{batchOf};
 ghost use Rattle.answers.specs.Answered.{replyOf};
-ghost use Rattle.rdap_c.specs.Numbers.{numbersOf, partNumbers};
+ghost use Rattle.prefixes.specs.Call.{ipRangeOf, prefixedOf, bufferAfter};
+ghost use Rattle.rdap_c.specs.Numbers.{numbersOf, partNumbers, prefixedNumbers};
 use answers::Answer;
 use image::Which;
 use query::Relation;
@@ -27,7 +28,7 @@ fn numbers(a: Answer) -> [u32; 7]
     [status, reason, kind, relation, count, defect, place]
 }
 
-// Offset and length of the handle or the name of a record in the image.
+// Offset and length of a part of a record in the image.
 fn part_numbers(image: &[u8], record_number: u32, which: Which) -> [u32; 2]
     ensures { λ r. ⌜ r ≡ partNumbers (spanOf (now (image .entry)) record_number which) ⌝ }
 {
@@ -122,4 +123,24 @@ pub extern "C" fn rdap_name(image: &[u8], record_number: u32, part: &mut [u32; 2
     ensures { λ _. ⌜ now (part .exit) ≡ partNumbers (spanOf (now (image .entry)) record_number Which.Name) ⌝ }
 {
     *part = part_numbers(image, record_number, Which::Name);
+}
+
+// The range of a block, alike; 0 and 0 if the record is no block too.
+#[no_mangle]
+pub extern "C" fn rdap_range(image: &[u8], record_number: u32, part: &mut [u32; 2])
+    ensures { λ _. ⌜ now (part .exit) ≡ partNumbers (spanOf (now (image .entry)) record_number Which.Range) ⌝ }
+{
+    *part = part_numbers(image, record_number, Which::Range);
+}
+
+// The prefixes of a range of addresses, to the front of the buffer.
+#[no_mangle]
+pub extern "C" fn rdap_prefixes(range: &[u8], out: &mut [u8], reply: &mut [u32; 2])
+    ensures { λ _. ⌜ now (reply .exit) ≡ prefixedNumbers (prefixedOf (ipRangeOf (now (range .entry))) (length (now (out .entry)))) ⌝ }
+    ensures { λ _. ⌜ now (out .exit) ≡ bufferAfter (ipRangeOf (now (range .entry))) (now (out .entry)) ⌝ }
+{
+    let a = rdap::prefixes(range, out);
+    let reason = a.reason;
+    let count = a.count;
+    *reply = [reason, count];
 }

@@ -1,4 +1,4 @@
--- A record that parses, by positions: a reader that passes its fields finds its handle and its name.
+-- A record that parses, by positions: a reader that passes its fields finds its range, its handle and its name.
 use mathlib.Core.Path.{_≡_, refl, sym, _∙_, ap}
 use mathlib.Core.Bool.{Bool, true, false, false≢true}
 use mathlib.Core.List.{List}
@@ -6,10 +6,10 @@ use Prim.Native.Nat.{ℕ, suc, _+_, _-_, _*_, _≤_}
 use native.Mathlib.Omega.{arith}
 use native.Mathlib.Nat.{le-refl}
 use lib.ListN.{length}
-use lib.Seq.{slice}
+use lib.Seq.{slice, slice-empty}
 use Rattle.fields.specs.Place.{passed}
 use Rattle.records.specs.Record.{Record, whole, isBlock, widthOf, recordOf}
-use Rattle.records.specs.Place.{bytesOf, Inside, innerSpan, handleSpan, nameSpan}
+use Rattle.records.specs.Place.{bytesOf, Inside, innerSpan, rangeSpan, handleSpan, nameSpan}
 use Rattle.records.specs.Layout.{spanFromTo, layoutOf, recordOn, Stands, Texts, BlockFields}
 use Rattle.records.proofs.Shapes.{field-there, named-whole, named-fields, block-whole, block-fields}
 
@@ -18,6 +18,8 @@ pub record Laid (s : List ℕ) (tag start end : ℕ) (r : Record) : Type 0 where
   pub own-tag : r .tag ≡ tag
   pub range-inside : isBlock tag ≡ true → start + 3 + 2 * widthOf tag ≤ end
   pub range : isBlock tag ≡ true → slice (start + 3) (start + 3 + 2 * widthOf tag) s ≡ r .range
+  pub range-span : bytesOf s (rangeSpan s tag start end) ≡ r .range
+  pub range-span-inside : Inside end (rangeSpan s tag start end)
   pub handle : bytesOf s (handleSpan s tag start end) ≡ r .handle
   pub handle-inside : Inside end (handleSpan s tag start end)
   pub name : bytesOf s (nameSpan s tag start end) ≡ r .name
@@ -44,7 +46,7 @@ module _ (s : List ℕ) (tag start end : ℕ) (r : Record) (p : start ≤ end) (
     is-named = is middle (named-whole s tag start end q b middle t)
 
     by-named : Laid s tag start end r
-    unfolding handleSpan nameSpan passed
+    unfolding rangeSpan handleSpan nameSpan passed
     by-named =
         let m : middle ≤ end = omega (arith, t .name .ends) in
         let h : innerSpan s start end 0 ≡ spanFromTo (start + 3) middle = span-at s 0x21 start middle (t .handle) end m start 0 refl in
@@ -54,6 +56,8 @@ module _ (s : List ℕ) (tag start end : ℕ) (r : Record) (p : start ≤ end) (
           own-tag = sym (ap (λ (z : Record). z .tag) is-named);
           range-inside = λ z. absurd (false≢true (sym b ∙ z));
           range = λ z. absurd (false≢true (sym b ∙ z));
+          range-span = rw b (slice-empty 0 s ∙ sym (slice-empty start s) ∙ rw b at (ap (λ (z : Record). z .range) is-named));
+          range-span-inside = rw b (record { forward = omega arith; within = omega arith });
           handle = rw (b, h) (rw b at (ap (λ (z : Record). z .handle) is-named));
           handle-inside = rw (b, h) (record { forward = omega (arith, t .handle .ends); within = m });
           name = rw (b, n) (rw b at (ap (λ (z : Record). z .name) is-named));
@@ -65,13 +69,14 @@ module _ (s : List ℕ) (tag start end : ℕ) (r : Record) (p : start ≤ end) (
     is-block = is middle (block-whole s tag start end q b (2 * widthOf tag) refl middle f)
 
     by-block : Laid s tag start end r
-    unfolding handleSpan nameSpan passed
+    unfolding rangeSpan handleSpan nameSpan passed
     by-block =
         let t = f .texts in
         let w = 2 * widthOf tag in
         let i : start + 3 + w ≤ end = omega (arith, t .handle .ends, t .name .ends) in
         let m : middle ≤ end = omega (arith, t .name .ends) in
         let a : start + 3 + w + 3 ≡ start + 6 + w = omega arith in
+        let g : innerSpan s start end 0 ≡ spanFromTo (start + 3) (start + 3 + w) = span-at s 0x20 start (start + 3 + w) (f .range) end i start 0 refl in
         let h : innerSpan s start end 1 ≡ spanFromTo (start + 3 + w + 3) middle =
         span-at s 0x21 (start + 3 + w) middle (t .handle) end m start 1 (pass-one s 0x20 start (start + 3 + w) (f .range) end i 0) in
         let n : innerSpan s start end 2 ≡ spanFromTo (middle + 3) (end - 4) =
@@ -81,6 +86,8 @@ module _ (s : List ℕ) (tag start end : ℕ) (r : Record) (p : start ≤ end) (
           own-tag = sym (ap (λ (z : Record). z .tag) is-block);
           range-inside = λ z. i;
           range = λ z. rw b at (ap (λ (z : Record). z .range) is-block);
+          range-span = rw (b, g) (rw b at (ap (λ (z : Record). z .range) is-block));
+          range-span-inside = rw (b, g) (record { forward = omega arith; within = i });
           handle = rw (b, h, a) (rw b at (ap (λ (z : Record). z .handle) is-block));
           handle-inside = rw (b, h) (record { forward = omega (arith, t .handle .ends); within = m });
           name = rw (b, n) (rw b at (ap (λ (z : Record). z .name) is-block));

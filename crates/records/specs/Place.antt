@@ -40,8 +40,8 @@ pub record Placed (tag end : ℕ) (p : Parts) : Type 0 where
   pub sizes : tag ≤ 18 → (p .range .end - p .range .start ≡ 2 * widthOf tag) × (p .status .end - p .status .start ≡ 1)
   pub absent : 18 < tag → (p .range .start ≡ p .range .end) × (p .status .start ≡ p .status .end)
 
--- The handle and the name of a record by the lengths alone: field 21 is the second field of a block and the first of another record,
--- and field 22 comes after it
+-- The range, the handle and the name of a record by the lengths alone: a block starts with field 20, another record with field 21, and
+-- field 22 comes after that
 
 -- the contents of a field
 abbrev pub spanFrom : Field → Span
@@ -53,6 +53,9 @@ abbrev pub innerSpan : List ℕ → ℕ → ℕ → ℕ → Span
 innerSpan s at end n = spanFrom (fieldAfter s n at end)
 
 -- in the record of a tag whose contents go from start up to end
+unfoldable pub rangeSpan : List ℕ → ℕ → ℕ → ℕ → Span
+rangeSpan s tag start end = cond (isBlock tag) (innerSpan s start end 0) (record { start = 0; end = 0 })
+
 unfoldable pub handleSpan : List ℕ → ℕ → ℕ → ℕ → Span
 handleSpan s tag start end = innerSpan s start end (cond (isBlock tag) 1 0)
 

@@ -14,14 +14,14 @@ use Rattle.pattern.specs.Pattern.{matchesForm, foldsCase}
 use Rattle.pattern.specs.declared.Form.{Form}
 use Rattle.records.specs.Place.{bytesOf, Inside}
 use Rattle.image.specs.Image.{imageOf}
-use Rattle.image.specs.Part.{recordsOf, textOf}
-use Rattle.image.specs.Entries.{textSpan}
+use Rattle.image.specs.Part.{recordsOf, contentsOf}
+use Rattle.image.specs.Entries.{contentsSpan}
 use Rattle.image.specs.Index.{tagOf, Standing, Selected}
 use Rattle.image.specs.declared.Run.{Run}
 use Rattle.image.specs.declared.Which.{Which}
 use Rattle.image.proofs.Soundness.{counted, few-records, few-bytes}
 use Rattle.entries.proofs.Halves.{carried}
-use Rattle.entries.proofs.Standing.{standing-of, text-in-image, place-inside}
+use Rattle.entries.proofs.Standing.{standing-of, contents-in-image, place-inside}
 use Rattle.listing.specs.Listing.{Reported}
 use Rattle.listing.specs.declared.Listed.{Listed}
 use Rattle.query.specs.Query.{source}
@@ -51,11 +51,11 @@ module _ {s places : List ℕ} {run : Run} (a : Selected s places run) where
     pub in-image : (getD places i 0 + 3 ≤ length s) × (length s ≤ 262144)
     in-image = (place-inside s places (a .count) (a .indexed) i known, few-bytes s (a .count) (a .indexed .sound))
 
-    pub text-inside : (which : Which) → Inside (length s) (textSpan which s (getD places i 0))
-    text-inside which = rw (a .indexed .place i known) (text-in-image stands which)
+    pub text-inside : (which : Which) → Inside (length s) (contentsSpan which s (getD places i 0))
+    text-inside which = rw (a .indexed .place i known) (contents-in-image stands which)
 
-    pub text-here : (which : Which) → bytesOf s (textSpan which s (getD places i 0)) ≡ textOf which (stands .r)
-    text-here which = rw (a .indexed .place i known) (stands .text which)
+    pub text-here : (which : Which) → bytesOf s (contentsSpan which s (getD places i 0)) ≡ contentsOf which (stands .r)
+    text-here which = rw (a .indexed .place i known) (stands .contents which)
 
 -- what is found from record i on
 abbrev pub foundFrom : List ℕ → Run → Which → Bool → Form → List ℕ → ℕ → List ℕ
@@ -71,7 +71,7 @@ module _ {s places : List ℕ} {run : Run} (a : Selected s places run) (which : 
   -- a record of the run: the text decides
   pub turn :
       (i : ℕ) → run .from ≤ i → (h : i < run .until) {v : Bool}
-      → v ≡ matchesForm fold form pattern (bytesOf s (textSpan which s (getD places i 0))) → from i ≡ keep v i (from (i + 1))
+      → v ≡ matchesForm fold form pattern (bytesOf s (contentsSpan which s (getD places i 0))) → from i ≡ keep v i (from (i + 1))
   turn i k h {v} e =
       let x = stands a i h in
       let t = a .run-of .inside i k h in

@@ -18,8 +18,8 @@ use Rattle.pattern.specs.declared.Form.the-variants.{Exact}
 use Rattle.records.specs.Record.{Record, sortedAfter, follows}
 use Rattle.records.specs.Place.{bytesOf}
 use Rattle.image.specs.Image.{imageOf}
-use Rattle.image.specs.Part.{recordsOf, textOf}
-use Rattle.image.specs.Entries.{textSpan}
+use Rattle.image.specs.Part.{recordsOf, contentsOf}
+use Rattle.image.specs.Entries.{contentsSpan}
 use Rattle.image.specs.Index.{Selected}
 use Rattle.image.specs.declared.Run.{Run}
 use Rattle.image.specs.declared.Which.{Which}
@@ -32,7 +32,7 @@ use Rattle.search.proofs.Picks.{stands, text-here, foundFrom, turn, pas
 
 -- the text of record i, where the index says that it stands
 abbrev pub keyAt : List ℕ → List ℕ → Which → ℕ → List ℕ
-keyAt s places which i = bytesOf s (textSpan which s (getD places i 0))
+keyAt s places which i = bytesOf s (contentsSpan which s (getD places i 0))
 
 abbrev pub Before : List ℕ → List ℕ → Which → List ℕ → ℕ → Type 0
 Before s places which wanted i = atMost wanted (keyAt s places which i) ≡ false
@@ -48,7 +48,7 @@ one-tag nameservers = refl
 one-tag entities = refl
 
 key-after : {first last : ℕ} {text : Text} → SortedBy first last text → (p r : Record) → p .tag ≡ first → r .tag ≡ first
-    → follows p r ≡ true → atMost (textOf (whichOf text) r) (textOf (whichOf text) p) ≡ false
+    → follows p r ≡ true → atMost (contentsOf (whichOf text) r) (contentsOf (whichOf text) p) ≡ false
 unfolding follows sortedAfter
 key-after domains p r h k e = not-true (atMost (r .name) (p .name)) (rw (h, k) at e)
 key-after nameservers p r h k e = not-true (atMost (r .name) (p .name)) (rw (h, k) at e)

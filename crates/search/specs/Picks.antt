@@ -6,9 +6,9 @@ use Rattle.address.specs.Lists.{within}
 use Rattle.pattern.specs.Pattern.{matchesForm}
 use Rattle.pattern.specs.declared.Form.{Form}
 use Rattle.records.specs.Record.{Record}
-use Rattle.image.specs.Part.{textOf}
+use Rattle.image.specs.Part.{contentsOf}
 use Rattle.image.specs.declared.Which.{Which}
 
 -- a tag from first to last, and a part of the record that matches; fold says whether case is folded
 abbrev pub picksRecord : ℕ → ℕ → Which → Bool → Form → List ℕ → Record → Bool
-picksRecord first last which fold form pattern r = within first last (r .tag) && matchesForm fold form pattern (textOf which r)
+picksRecord first last which fold form pattern r = within first last (r .tag) && matchesForm fold form pattern (contentsOf which r)

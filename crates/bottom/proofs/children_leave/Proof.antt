@@ -23,6 +23,13 @@ Inv-loop image family starts links n i free₀ limit width end j₀ free j =
 abbrev μ-loop : tie.MeasureT-loop
 μ-loop image family starts links n i free₀ limit width end j₀ free j = end - j
 
+module _ (c : tie.Start Inv-loop μ-loop) where
+  limit-high : c .args .limit .high < 18446744073709551616
+  limit-high = search needs
+
+  limit-low : c .args .limit .low < 18446744073709551616
+  limit-low = search needs
+
 -- the child of this turn
 child : (c : tie.In-loop Inv-loop μ-loop) → c .before .loop .j < c .before .before .before .before .before .args .n
 child c = child-known (c .before .before .before .before .before .pre .0) (c .before .loop .inv) (c .loop-test .taken)
@@ -97,7 +104,9 @@ returns-2 : tie.Need-returns-2 Inv-loop μ-loop
 returns-2 c = walk-over (c .before .before .before .before .before .before .before .before .before .before .before .before .pre .0) (c .before .before .before .before .before .before .before .before .loop .inv) (c .before .before .before .before .before .before .before .loop-test .taken) (c .before .before .before .before .before .before .before .before .before .before .width-of .ensures .0) (c .before .before .before .before .before .words-at .ensures) (c .before .before .before .before .words-at-most .ensures) (not-false _ (c .before .before .before .if1 .left)) (c .before .before .words-at2 .ensures) (c .before .words-at-most2 .ensures) (c .if2 .taken)
 
 next-requires : tie.Need-next-requires Inv-loop μ-loop
-next-requires c κs = room 18446744073709551615 _ _ _ _ (omega arith) (omega arith) (leb-false _ _ (sym (c .before .words-at-most2 .ensures) ∙ c .if2 .left))
+next-requires c κs =
+    let start = c .before .before .before .before .before .before .before .before .before .before .before .before in
+    room 18446744073709551615 _ _ _ _ (limit-high start) (limit-low start) (leb-false _ _ (sym (c .before .words-at-most2 .ensures) ∙ c .if2 .left))
 
 greater-requires : tie.Need-greater-requires Inv-loop μ-loop
 greater-requires c κs = search needs

@@ -23,7 +23,7 @@ returns : tie.Need-returns
 returns c =
     let span = c .before .part-span .ensures in
     record {
-      same = part-slice _ _ _ (span .inside .forward) ∙ span .text;
+      same = part-slice _ _ _ (span .inside .forward) ∙ span .bytes;
       memory = refl;
       offset = omega (arith, ap (λ (x : Span). x .start) (span .same));
     }

@@ -33,25 +33,25 @@ indexed c = c .before .before .index .ensures .indexed _ (c .count .given .1)
 returns-2 : tie.Need-returns-2
 returns-2 c = span-beyond _ _ _ (indexed (c .before .before) .sound) (c .if1 .taken)
 
-mul-text-span : tie.Need-mul-text-span
-mul-text-span c = search needs
+mul-contents-span : tie.Need-mul-contents-span
+mul-contents-span c = search needs
 
-array-read-text-span : tie.Need-array-read-text-span
-array-read-text-span c = omega (arith, few-records _ _ (indexed (c .before .before) .sound), c .if1 .left)
+array-read-contents-span : tie.Need-array-read-contents-span
+array-read-contents-span c = omega (arith, few-records _ _ (indexed (c .before .before) .sound), c .if1 .left)
 
-cast-text-span : tie.Need-cast-text-span
-cast-text-span c =
+cast-contents-span : tie.Need-cast-contents-span
+cast-contents-span c =
     let x = indexed (c .before .before) in
     omega (arith, place-inside _ _ _ x _ (c .if1 .left), few-bytes _ _ (x .sound))
 
-text-span-requires : tie.Need-text-span-requires
-text-span-requires c κs = search needs
+contents-span-requires : tie.Need-contents-span-requires
+contents-span-requires c κs = search needs
 
 returns-3 : tie.Need-returns-3
 returns-3 c =
     let x = indexed (c .before .before .before) in
     let h = c .before .if1 .left in
-    span-some _ _ _ (x .sound) h _ (x .place _ h) _ (c .text-span .ensures)
+    span-some _ _ _ (x .sound) h _ (x .place _ h) _ (c .contents-span .ensures)
 
 pub part-span-spec : {M : Type 1} → statement M
 part-span-spec =
@@ -62,8 +62,8 @@ part-span-spec =
     enum-told
     returns
     returns-2
-    mul-text-span
-    array-read-text-span
-    cast-text-span
-    text-span-requires
+    mul-contents-span
+    array-read-contents-span
+    cast-contents-span
+    contents-span-requires
     returns-3)

@@ -10,7 +10,6 @@ use Rattle.address.proofs.Pairs.{room}
 use Rattle.cidr.specs.Prefixes.{prefix}
 use Rattle.cidr.proofs.Theorem.{at-most-254}
 use Rattle.prefixes.specs.Entries.{between, walked}
-use Rattle.prefixes.proofs.Digits.{most}
 use Rattle.prefixes.proofs.Walk as walk
 use borrow.Author.Needs.{needs}
 use Rattle.prefixes.proofs.count.Statement.{statement}
@@ -55,7 +54,7 @@ not-yet c = leb-false _ _ (sym (c .before .words-at-most .ensures) ∙ c .if1 .l
 next-requires : tie.Need-next-requires Inv-loop μ-loop
 next-requires c κs =
     let start = c .before .before .before .before .before in
-    room 18446744073709551615 _ _ _ _ (most (high start)) (most (low start)) (not-yet c)
+    room 18446744073709551615 _ _ _ _ (high start) (low start) (not-yet c)
 
 more : (c : tie.After-next Inv-loop μ-loop)
     → walked (c .before .before .before .before .before .loop .start) (c .before .before .before .before .before .before .args .last)

@@ -13,7 +13,6 @@ use Rattle.cidr.specs.Prefixes.{Prefix, prefix, from-to, prefixesOf}
 use Rattle.cidr.proofs.Greedy.{first-prefix}
 use Rattle.cidr.proofs.Theorem.{at-most-254}
 use Rattle.prefixes.specs.Entries.{between, walked}
-use Rattle.prefixes.proofs.Digits.{most}
 use Rattle.prefixes.proofs.Walk as walk
 use Rattle.prefixes.proofs.Writing.{Entered, nothing-entered, kept-length, entry-inside, few-entered, entered, all-entered, entry-fits}
 use borrow.Author.Needs.{needs}
@@ -99,7 +98,7 @@ not-yet c = leb-false _ _ (sym (c .before .words-at-most .ensures) ∙ c .if1 .l
 next-requires : tie.Need-next-requires Inv-loop μ-loop
 next-requires c κs =
     let s = start (c .before .before .before .before .before .before .before) in
-    room 18446744073709551615 _ _ _ _ (most (high s)) (most (low s)) (not-yet c)
+    room 18446744073709551615 _ _ _ _ (high s) (low s) (not-yet c)
 
 module _ (c : tie.After-next Inv-loop μ-loop) where
   abbrev turn : tie.After-prefix-at Inv-loop μ-loop

@@ -18,9 +18,6 @@ enum-told c = search needs
 list-picked-requires : tie.Need-list-picked-requires
 list-picked-requires c κs = search needs
 
-enum-told-2 : tie.Need-enum-told-2
-enum-told-2 c = search needs
-
 list-picked-requires-2 : tie.Need-list-picked-requires-2
 list-picked-requires-2 c κs = search needs
 
@@ -39,10 +36,9 @@ same-length-2 c = search needs
 
 returns-2 : tie.Need-returns-2
 returns-2 c =
-    let part = c .before .before .before .before .before .before in
+    let part = c .before .before .before .before .before in
     let a = part .before .before .before .before .before .args in
-    matched (a .run) (a .text) (a .form) (now (a .pattern)) (now (a .image)) (part .before .folds-case .ensures)
-    (sym (c .before .before .before .before .enum-told2 .given .1) ∙ part .which-of .ensures) (c .before .before .list-picked2 .ensures)
+    matched (a .run) (a .text) (a .form) (now (a .pattern)) (now (a .image)) (part .before .folds-case .ensures) (part .which-of .ensures) (c .before .before .list-picked2 .ensures)
 
 pub matching-spec : {M : Type 1} → statement M
 matching-spec =
@@ -52,7 +48,6 @@ matching-spec =
     which-of-requires
     enum-told
     list-picked-requires
-    enum-told-2
     list-picked-requires-2
     same-length
     returns

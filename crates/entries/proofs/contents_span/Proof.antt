@@ -1,0 +1,72 @@
+-- The field that is read at the position has the part (Spans.antt).
+use borrow.Author.Needs.{needs}
+use Rattle.image.specs.declared.Which.the-variants.{Range, Handle, Name}
+use Rattle.entries.proofs.Spans.{no-contents, contents-read, end-inside}
+use Rattle.entries.proofs.contents_span.Statement.{statement}
+use Rattle.entries.proofs.contents_span.Tie as tie
+
+read-requires : tie.Need-read-requires
+read-requires c κs = search needs
+
+enum-known-tag : tie.Need-enum-known-tag
+enum-known-tag c = search needs
+
+enum-told : tie.Need-enum-told
+enum-told c = search needs
+
+returns : tie.Need-returns
+returns c = no-contents _ _ _ (c .before .before .read .ensures) (c .enum-told .given .1) _
+
+enum-told-2 : tie.Need-enum-told-2
+enum-told-2 c = search needs
+
+range-span-requires : tie.Need-range-span-requires
+range-span-requires c κs =
+    end-inside _ _ _ (c .before .before .before .before .before .read .ensures) _ _ _ (c .before .before .before .tag .given .1)
+
+enum-told-3 : tie.Need-enum-told-3
+enum-told-3 c = search needs
+
+handle-span-requires : tie.Need-handle-span-requires
+handle-span-requires c κs =
+    end-inside _ _ _ (c .before .before .before .before .before .read .ensures) _ _ _ (c .before .before .before .tag .given .1)
+
+enum-told-4 : tie.Need-enum-told-4
+enum-told-4 c = search needs
+
+name-span-requires : tie.Need-name-span-requires
+name-span-requires c κs =
+    end-inside _ _ _ (c .before .before .before .before .before .read .ensures) _ _ _ (c .before .before .before .tag .given .1)
+
+returns-2 : tie.Need-returns-2
+returns-2 c =
+    contents-read _ _ _ (c .before .before .before .before .before .before .read .ensures) _ _ _ (c .before .before .before .before .tag .given .1)
+    _ Range (c .before .enum-told2 .given .1) (c .range-span .ensures)
+
+returns-3 : tie.Need-returns-3
+returns-3 c =
+    contents-read _ _ _ (c .before .before .before .before .before .before .read .ensures) _ _ _ (c .before .before .before .before .tag .given .1)
+    _ Handle (c .before .enum-told3 .given .1) (c .handle-span .ensures)
+
+returns-4 : tie.Need-returns-4
+returns-4 c =
+    contents-read _ _ _ (c .before .before .before .before .before .before .read .ensures) _ _ _ (c .before .before .before .before .tag .given .1)
+    _ Name (c .before .enum-told4 .given .1) (c .name-span .ensures)
+
+pub contents-span-spec : {M : Type 1} → statement M
+contents-span-spec =
+    tie.close
+    (tie.spec
+    read-requires
+    enum-known-tag
+    enum-told
+    returns
+    enum-told-2
+    range-span-requires
+    enum-told-3
+    handle-span-requires
+    enum-told-4
+    name-span-requires
+    returns-2
+    returns-3
+    returns-4)

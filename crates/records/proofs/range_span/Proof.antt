@@ -1,0 +1,20 @@
+-- The test of the tag chooses whether there is a range, as the definition does.
+use mathlib.Core.Path.{_∙_}
+use borrow.Author.Needs.{needs}
+use Rattle.records.specs.Place.{rangeSpan}
+use Rattle.records.proofs.range_span.Statement.{statement}
+use Rattle.records.proofs.range_span.Tie as tie
+
+inner-span-requires : tie.Need-inner-span-requires
+inner-span-requires c κs = search needs
+
+returns : tie.Need-returns
+unfolding rangeSpan
+returns c = c .inner-span .ensures ∙ rw (c .before .if1 .taken)
+
+returns-2 : tie.Need-returns-2
+unfolding rangeSpan
+returns-2 c = rw (c .if1 .left)
+
+pub range-span-spec : {M : Type 1} → statement M
+range-span-spec = tie.close (tie.spec inner-span-requires returns returns-2)
