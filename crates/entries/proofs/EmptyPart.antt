@@ -1,5 +1,5 @@
 -- A part is empty exactly where there is no record that has it: rule 5 leaves no empty handle or name, rule 4 no empty range of a block.
-use Prim.Native.Nat.{ℕ, _+_, _*_, _≤_, _<_}
+use Prim.Native.Nat.{ℕ, _*_, _≤_, _<_}
 use mathlib.Core.Bool.{Bool, true, false, cond, _&&_, _||_, true≢false}
 use mathlib.Core.Logic.{_↔_}
 use mathlib.Core.Path.{_≡_, refl, sym, ap, _∙_}
@@ -8,7 +8,7 @@ use native.Mathlib.Decide.{decLt}
 use native.Mathlib.Omega.{arith}
 use lib.Dec.{T, eqb, leb}
 use lib.ListN.{length, take, drop, drop-of-length-le}
-use lib.Seq.{slice-empty, length-slice}
+use lib.Seq.{slice-empty}
 use Rattle.address.specs.Lists.{within, every, any}
 use Rattle.address.specs.Number.{value}
 use Rattle.address.specs.Ranges.{wellFormed}
@@ -20,11 +20,11 @@ use Rattle.records.specs.Record.{Record, isBlock, widthOf, rangeOf, goodName, g
 use Rattle.records.specs.Place.{rangeSpan}
 use Rattle.image.specs.Image.{imageOf}
 use Rattle.image.specs.Part.{recordsOf, contentsOf, contentsOfFirst, excerptOf, has, EmptyPart}
-use Rattle.image.specs.Entries.{placeOf, contentsSpan}
+use Rattle.image.specs.Entries.{contentsSpan}
 use Rattle.image.specs.Index.{tagOf, Standing}
 use Rattle.image.specs.declared.Which.{Which}
 use Rattle.image.specs.declared.Which.the-variants.{Range, Handle, Name}
-use Rattle.entries.proofs.Standing.{standing}
+use Rattle.entries.proofs.Standing.{standing, range-length}
 
 empty-text : (low : ℕ) → goodText low [] ≡ true → ⊥
 unfolding goodText
@@ -44,7 +44,6 @@ module _ (s : List ℕ) (n : ℕ) (k : Standing s n) where
   unfolding goodContents
   texts = and-left (goodTexts (k .r)) (leb (value (k .r .status)) 1 && wellFormed (rangeOf (k .r))) (k .good)
 
-  -- the range of a block has two addresses or numbers
   some-bytes : (tag : ℕ) → 1 ≤ 2 * widthOf tag
   some-bytes tag = go (eqb tag 0x11)
     where
@@ -56,8 +55,7 @@ module _ (s : List ℕ) (n : ℕ) (k : Standing s n) where
   ranged b e =
       let h = within-high 0x10 0x12 (k .r .tag) b in
       let block : tagOf s n ≤ 18 = omega (arith, k .tag) in
-      let from = placeOf s n + 6 in
-      omega (arith, length-slice from (from + 2 * widthOf (tagOf s n)) s (k .range-inside block), ap length (k .range block ∙ e), some-bytes (tagOf s n))
+      omega (arith, range-length k block, ap length e, some-bytes (tagOf s n))
 
   no-range : isBlock (k .r .tag) ≡ false → k .r .range ≡ []
   unfolding contentsSpan rangeSpan

@@ -1,12 +1,12 @@
 -- Every record of a sound image stands where it starts, and its range, its handle and its name lie in it.
-use mathlib.Core.Path.{_≡_, sym, _∙_}
+use mathlib.Core.Path.{_≡_, sym, ap, _∙_}
 use mathlib.Core.Bool.{true}
 use mathlib.Core.List.{List}
 use Prim.Native.Nat.{ℕ, _+_, _-_, _*_, _≤_, _<_}
 use native.Mathlib.Omega.{arith}
 use native.Mathlib.Nat.{le-trans}
 use lib.ListN.{length, take, drop, getD}
-use lib.Seq.{slice}
+use lib.Seq.{slice, length-slice}
 use Rattle.address.specs.Address.{numbers, rangeAt, number-at}
 use Rattle.address.specs.Ranges.{rangeFrom}
 use Rattle.fields.specs.Heads.{field-tag, field-inside}
@@ -77,6 +77,12 @@ standing s i h =
 -- the same by the verdict
 pub standing-of : (s : List ℕ) (count : ℕ) → verdictOf (imageOf s) ≡ Sound count → (i : ℕ) → i < count → Standing s i
 standing-of s count v i h = standing s i (omega (arith, counted (imageOf s) count v))
+
+-- the range of a block has two addresses or numbers
+pub range-length : {s : List ℕ} {i : ℕ} (x : Standing s i) → tagOf s i ≤ 18 → length (x .r .range) ≡ 2 * widthOf (tagOf s i)
+range-length {s} {i} x h =
+    let from = placeOf s i + 6 in
+    ap length (sym (x .range h)) ∙ length-slice from (from + 2 * widthOf (tagOf s i)) s (x .range-inside h) ∙ omega arith
 
 -- a part lies in the record, and so in the image
 pub contents-in-image : {s : List ℕ} {i : ℕ} → Standing s i → (which : Which) → Inside (length s) (contentsSpan which s (placeOf s i))

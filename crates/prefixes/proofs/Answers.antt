@@ -22,6 +22,7 @@ use Rattle.prefixes.specs.declared.Prefixed.{Prefixed}
 use Rattle.prefixes.specs.Call.{IpRange, entriesOf, ipRange, ipRangeOf, prefixesIn, entriesIn, prefixedOf, bufferAfter}
 use Rattle.prefixes.specs.Answers.{AnswersShortest}
 use Rattle.prefixes.specs.Entries.{between, walked, Ordered}
+use Rattle.prefixes.proofs.Writing.{by-width}
 use Rattle.prefixes.proofs.Room.{at-width}
 
 -- a range of two addresses of so many bytes
@@ -91,6 +92,14 @@ pub neither : (s out : List ℕ) → (length s ≡ 8 → ⊥) → (length s ≡ 
     → (record { reason = 6; count = 0 } ≡ prefixedOf (ipRangeOf s) (length out)) × (out ≡ bufferAfter (ipRangeOf s) out)
 unfolding ipRangeOf prefixedOf bufferAfter
 neither s out e f = rw (ne-eqb (length s) 8 e, ne-eqb (length s) 32 f) (refl, refl)
+
+-- two addresses of 4 or 16 bytes, in order
+pub a-network : (s : List ℕ) {width : ℕ} → Wide width → length s ≡ 2 * width → rangeFrom width s .first ≤ rangeFrom width s .last
+    → ipRangeOf s ≡ some (record { width = width; range = rangeFrom width s })
+unfolding ipRangeOf ipRange wellFormed
+a-network s w = by-width w (λ (k : ℕ). length s ≡ 2 * k → rangeFrom k s .first ≤ rangeFrom k s .last → ipRangeOf s ≡ some (record { width = k; range = rangeFrom k s }))
+    (λ e h. rw (eq-eqb (length s) 8 e, le-leb (value (take 4 s)) (value (drop 4 s)) h))
+    (λ e h. rw (ne-eqb (length s) 8 (λ f. omega arith), eq-eqb (length s) 32 e, le-leb (value (take 16 s)) (value (drop 16 s)) h))
 
 -- Every answer is the shortest list
 of-width : (s : List ℕ) (width : ℕ) → length s ≡ 2 * width → Bytes s → (a : IpRange) → ipRange width s ≡ some a → Shortest (8 * a .width) (a .range) (prefixesIn a)
