@@ -1,5 +1,5 @@
-//! Images, paths and batches of paths to compare implementations on, made from a
-//! seed.
+//! Images, paths, batches of paths and ranges to compare implementations on, made
+//! from a seed.
 //!
 //! Sound images have many shapes; damaged ones start from a sound one. Paths
 //! aim at what the image holds, so that most of them reach the records, and a
@@ -7,7 +7,7 @@
 
 use crate::{
     Checked, Range, AS, DOMAIN, ENTITY, IPV4, IPV6, LONGEST_IMAGE, LONGEST_PATH, MOST_PATHS,
-    MOST_RECORDS, NAMESERVER, RELATIONS, START,
+    MOST_PREFIXES, MOST_RECORDS, NAMESERVER, RELATIONS, START,
 };
 use crate::{Record, Relation};
 
@@ -86,16 +86,10 @@ pub struct Draft {
 
 impl Draft {
     pub fn block(tag: u8, range: Range, handle: &[u8], name: &[u8], active: bool) -> Draft {
-        let skipped = if tag == IPV6 { 0 } else { 12 };
-        let contents = [
-            &range.first.to_be_bytes()[skipped..],
-            &range.last.to_be_bytes()[skipped..],
-        ]
-        .concat();
         Draft {
             tag,
             fields: vec![
-                (0x20, contents),
+                (0x20, ends(tag, range)),
                 (0x21, handle.to_vec()),
                 (0x22, name.to_vec()),
                 (0x23, vec![u8::from(active)]),
@@ -145,6 +139,16 @@ impl Draft {
         record.extend(contents);
         record
     }
+}
+
+/// The contents of field 20 in a record of this tag.
+pub fn ends(tag: u8, range: Range) -> Vec<u8> {
+    let skipped = if tag == IPV6 { 0 } else { 12 };
+    [
+        &range.first.to_be_bytes()[skipped..],
+        &range.last.to_be_bytes()[skipped..],
+    ]
+    .concat()
 }
 
 pub fn encode(drafts: &[Draft]) -> Vec<u8> {
@@ -910,6 +914,20 @@ pub fn places(rng: &mut Rng, count: usize) -> usize {
     }
 }
 
+/// A length in bytes for the entries of so many prefixes of a range.
+pub fn room(rng: &mut Rng, range: &[u8], count: usize) -> usize {
+    let entry = range.len() / 2 + 1;
+    match rng.below(8) {
+        // in the last entry, or right after it
+        0 => (count * entry + rng.below(entry)).saturating_sub(rng.below(entry)),
+        // as many bytes as there are prefixes
+        1 => count,
+        2 => rng.below(count * entry + 1),
+        3 => MOST_PREFIXES * entry,
+        _ => places(rng, count * entry),
+    }
+}
+
 /// How many places there must be for a batch, whatever its paths ask for.
 pub fn enough_places(text: &[u8], aims: &Aims) -> usize {
     let paths = text.split(|&byte| byte == b'\n').count();
@@ -944,6 +962,64 @@ pub fn batch_places(rng: &mut Rng, answers: &[(u32, usize)]) -> usize {
         }
         _ => rng.below(all + 1),
     }
+}
+
+// Ranges
+
+/// First and last, mostly in order; now and then of a length that is no family's.
+pub fn range(rng: &mut Rng, aims: &Aims) -> Vec<u8> {
+    let family = *rng.pick(&[IPV4, IPV6]);
+    let most = largest(family);
+    let mut range = draft_range(rng, aims, family);
+    // an end off by one, or both
+    for end in [&mut range.first, &mut range.last] {
+        match rng.below(8) {
+            0 => *end = end.saturating_sub(1),
+            1 => *end = end.saturating_add(1).min(most),
+            _ => {}
+        }
+    }
+    let mut contents = ends(family, range);
+    let half = contents.len() / 2;
+    match rng.below(24) {
+        0 => contents.rotate_left(half),
+        1 => contents.resize(rng.below(41), *rng.pick(&[0, 1, 0xFF])),
+        2 => contents.resize(*rng.pick(&[7, 9, 16, 31, 33, 64]), 0),
+        _ => {}
+    }
+    contents
+}
+
+fn draft_range(rng: &mut Rng, aims: &Aims, family: u8) -> Range {
+    let most = largest(family);
+    let bits = 128 - most.leading_zeros() as usize;
+    let address = rng.wide() & most;
+    // ones in the low bits, as many as one likes
+    let low = most >> rng.below(bits);
+    let (first, last) = match rng.below(10) {
+        0 => return aims.block(rng, family),
+        // a prefix
+        1 | 2 => (address & !low, address | low),
+        3 => (address, address),
+        // few addresses, or as many as `low` says
+        4 => (address, address.saturating_add(rng.below(300) as u128)),
+        5 => (address, address.saturating_add(rng.wide() & low)),
+        // on both sides of a border, as 2 to the 32 and 2 to the 64
+        6 | 7 => {
+            let border = match rng.below(3) {
+                0 => 1 << (bits / 4 * rng.between(1, 3)),
+                1 => address & !low,
+                _ => low.wrapping_add(1) & most,
+            };
+            let (before, after) = (rng.wide() & low, rng.wide() & low);
+            (border.saturating_sub(before), border.saturating_add(after))
+        }
+        // the whole family, or up to an end of it
+        8 => (*rng.pick(&[0, 0, address]), *rng.pick(&[most, most, low])),
+        _ => (address, rng.wide() & most),
+    };
+    let (first, last) = (first.min(last), first.max(last).min(most));
+    Range { first, last }
 }
 
 // Paths

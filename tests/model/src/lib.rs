@@ -3,7 +3,7 @@
 //! document's own sentences.
 //!
 //! `fast` is a second implementation for measuring against, `generate` makes
-//! images and paths to compare implementations on.
+//! images, paths and ranges to compare implementations on.
 
 pub mod fast;
 pub mod generate;
@@ -16,6 +16,8 @@ pub const MOST_PATHS: usize = 64;
 /// "At most 262,144 bytes and 4,096 records."
 pub const LONGEST_IMAGE: usize = 262_144;
 pub const MOST_RECORDS: usize = 4096;
+/// "IPv4 never needs more than 62 prefixes, IPv6 never more than 254."
+pub const MOST_PREFIXES: usize = 254;
 /// "It starts with the bytes 01 00 01 01 (edition 1)."
 pub const START: [u8; 4] = [0x01, 0x00, 0x01, 0x01];
 
@@ -73,6 +75,8 @@ impl Part {
 pub struct Record {
     pub tag: u8,
     pub range: Option<Range>,
+    /// Field 20, of no length and at 0 where there is none.
+    pub ends: Part,
     pub handle: Part,
     pub name: Part,
 }
@@ -144,6 +148,28 @@ impl Reply {
     }
 }
 
+/// What the call on a range returns beside the entries: "New calls that take no
+/// path give a reason without a status."
+#[derive(Clone, Copy, Debug, PartialEq, Eq)]
+pub struct Prefixed {
+    pub reason: u32,
+    pub count: u32,
+}
+
+impl Prefixed {
+    pub fn numbers(self) -> [u32; 2] {
+        [self.reason, self.count]
+    }
+
+    /// Reason 6.
+    pub fn refused() -> Prefixed {
+        Prefixed {
+            reason: 6,
+            count: 0,
+        }
+    }
+}
+
 /// The status table's first two columns.
 pub fn status(reason: u32) -> u32 {
     match reason {
@@ -189,8 +215,47 @@ pub fn name(image: &[u8], record: u32) -> &[u8] {
     within(image, name_part(&check(image), record))
 }
 
+/// Field 20 of a block, "as a part of the image, empty if the image is defective
+/// or the record is no block".
+pub fn range(image: &[u8], record: u32) -> &[u8] {
+    within(image, range_part(&check(image), record))
+}
+
 fn within(image: &[u8], part: (u32, u32)) -> &[u8] {
     &image[part.0 as usize..][..part.1 as usize]
+}
+
+/// "For any first and last of one IP family with first not above last, list the
+/// prefixes in ascending order that together hold exactly that range, and no
+/// shorter list does." `range` is the contents of a field 20.
+pub fn prefixes(range: &[u8], out: &mut [u8]) -> Prefixed {
+    let address = match range.len() {
+        8 => 4,
+        32 => 16,
+        _ => return Prefixed::refused(),
+    };
+    // "First above last is reason 6"
+    let range = range_of(range);
+    if range.first > range.last {
+        return Prefixed::refused();
+    }
+    // "An entry is the address in 4 or 16 bytes, then its length in one."
+    let listed = prefixes_of(range, 8 * address as u128);
+    let mut entries = Vec::new();
+    for (first, length) in &listed {
+        entries.extend(&first.to_be_bytes()[16 - address..]);
+        entries.push(*length as u8);
+    }
+    // "too little room is reason 9 with the number of prefixes needed, both
+    // leaving the list unchanged"
+    let fits = entries.len() <= out.len();
+    if fits {
+        out[..entries.len()].copy_from_slice(&entries);
+    }
+    Prefixed {
+        reason: if fits { 0 } else { 9 },
+        count: listed.len() as u32,
+    }
 }
 
 // The same for an image that is already checked, so that many calls on one
@@ -283,6 +348,10 @@ pub fn handle_part(checked: &Checked, record: u32) -> (u32, u32) {
 
 pub fn name_part(checked: &Checked, record: u32) -> (u32, u32) {
     part(checked, record, |record| record.name)
+}
+
+pub fn range_part(checked: &Checked, record: u32) -> (u32, u32) {
+    part(checked, record, |record| record.ends)
 }
 
 fn part(checked: &Checked, record: u32, field: fn(&Record) -> Part) -> (u32, u32) {
@@ -430,20 +499,24 @@ fn read_record(image: &[u8], at: usize, before: &[Record]) -> Result<(Record, us
         return Err(5);
     }
     let mut range = None;
+    let mut ends = Part {
+        offset: 0,
+        length: 0,
+    };
     if is_block {
-        // "Field 20 is first and last, both included, high byte first."
-        let (first, last) = inner[0].of(image).split_at(address);
-        let (first, last) = (number_of(first), number_of(last));
+        ends = inner[0];
+        let found = range_of(ends.of(image));
         // "23 is one byte, 1 active or 0 not."
         let active = inner[3].of(image)[0];
-        if first > last || active > 1 {
+        if found.first > found.last || active > 1 {
             return Err(5);
         }
-        range = Some(Range { first, last });
+        range = Some(found);
     }
     let record = Record {
         tag,
         range,
+        ends,
         handle,
         name,
     };
@@ -467,6 +540,15 @@ fn read_record(image: &[u8], at: usize, before: &[Record]) -> Result<(Record, us
         }
     }
     Ok((record, outer.end))
+}
+
+/// "Field 20 is first and last, both included, high byte first."
+fn range_of(contents: &[u8]) -> Range {
+    let (first, last) = contents.split_at(contents.len() / 2);
+    Range {
+        first: number_of(first),
+        last: number_of(last),
+    }
 }
 
 fn number_of(bytes: &[u8]) -> u128 {
@@ -933,22 +1015,41 @@ fn read_network(segments: &[&[u8]]) -> Option<(u8, Range)> {
         None => bits,
         Some(length) => read_number(length, bits)?,
     };
+    Some((family, prefix(first, length, bits)?))
+}
+
+/// The addresses that begin with the first `length` of the `bits` of an address,
+/// None if those after them are not zero.
+fn prefix(first: u128, length: u128, bits: u128) -> Option<Range> {
     let after = bits - length;
     let mask = if after == 128 {
         u128::MAX
     } else {
         (1 << after) - 1
     };
-    if first & mask != 0 {
-        return None;
+    (first & mask == 0).then_some(Range {
+        first,
+        last: first | mask,
+    })
+}
+
+/// Address and length of the prefixes that hold exactly a range: the largest one
+/// that starts where the range does and lies inside, then those of the rest.
+fn prefixes_of(range: Range, bits: u128) -> Vec<(u128, u128)> {
+    let mut listed = Vec::new();
+    let mut rest = Some(range);
+    while let Some(range) = rest {
+        let (length, largest) = (0..=bits)
+            .filter_map(|length| Some((length, prefix(range.first, length, bits)?)))
+            .find(|(_, block)| range.covers(*block))
+            .expect("the first address alone");
+        listed.push((range.first, length));
+        rest = (largest.last < range.last).then(|| Range {
+            first: largest.last + 1,
+            last: range.last,
+        });
     }
-    Some((
-        family,
-        Range {
-            first,
-            last: first | mask,
-        },
-    ))
+    listed
 }
 
 /// A decimal number from 0 to `most`, "without leading zeros".

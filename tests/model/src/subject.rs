@@ -62,6 +62,14 @@ mod calls {
         );
         fn rdap_handle(image: *const u8, image_len: usize, record: u32, part: *mut u32);
         fn rdap_name(image: *const u8, image_len: usize, record: u32, part: *mut u32);
+        fn rdap_range(image: *const u8, image_len: usize, record: u32, part: *mut u32);
+        fn rdap_prefixes(
+            range: *const u8,
+            range_len: usize,
+            out: *mut u8,
+            out_len: usize,
+            reply: *mut u32,
+        );
     }
 
     /// A function that takes a text, an image and a list.
@@ -129,6 +137,24 @@ mod calls {
     pub fn name(image: &[u8], record: u32, part: &mut [u32; 2]) {
         unsafe { rdap_name(image.as_ptr(), image.len(), record, part.as_mut_ptr()) }
     }
+
+    #[inline]
+    pub fn range(image: &[u8], record: u32, part: &mut [u32; 2]) {
+        unsafe { rdap_range(image.as_ptr(), image.len(), record, part.as_mut_ptr()) }
+    }
+
+    #[inline]
+    pub fn prefixes(range: &[u8], out: &mut [u8], reply: &mut [u32; 2]) {
+        unsafe {
+            rdap_prefixes(
+                range.as_ptr(),
+                range.len(),
+                out.as_mut_ptr(),
+                out.len(),
+                reply.as_mut_ptr(),
+            )
+        }
+    }
 }
 
 #[cfg(not(feature = "ffi"))]
@@ -168,6 +194,16 @@ mod calls {
     pub fn name(image: &[u8], record: u32, part: &mut [u32; 2]) {
         *part = fast::name_part(image, record).into();
     }
+
+    #[inline]
+    pub fn range(image: &[u8], record: u32, part: &mut [u32; 2]) {
+        *part = fast::range_part(image, record).into();
+    }
+
+    #[inline]
+    pub fn prefixes(range: &[u8], out: &mut [u8], reply: &mut [u32; 2]) {
+        *reply = fast::prefixes(range, out).numbers();
+    }
 }
 
-pub use calls::{answer, batch, handle, name, relation, NAME};
+pub use calls::{answer, batch, handle, name, prefixes, range, relation, NAME};

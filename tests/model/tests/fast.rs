@@ -1,13 +1,19 @@
 //! The two implementations give the same on generated inputs.
 
 use model::generate::{self, Aims, Rng};
-use model::{fast, Reply, RELATIONS};
+use model::{fast, Prefixed, Reply, MOST_PREFIXES, RELATIONS};
 
 const FILL: u32 = 0xA5A5_5A5A;
+const FILL_BYTE: u8 = 0xA5;
 
 /// Reply and list afterwards, for a list of so many places.
 fn with_list(places: usize, call: impl Fn(&mut [u32]) -> Reply) -> (Reply, Vec<u32>) {
-    let mut list = vec![FILL; places];
+    with_room(places, FILL, call)
+}
+
+/// The same for any list, filled with `fill`.
+fn with_room<T: Clone, R>(room: usize, fill: T, call: impl Fn(&mut [T]) -> R) -> (R, Vec<T>) {
+    let mut list = vec![fill; room];
     let reply = call(&mut list);
     (reply, list)
 }
@@ -60,7 +66,11 @@ fn same_answers() {
                 fast::name_part(&image, record),
                 model::name_part(&checked, record)
             );
-            calls += 7;
+            assert_eq!(
+                fast::range_part(&image, record),
+                model::range_part(&checked, record)
+            );
+            calls += 8;
         }
     }
     println!("{calls} calls, replies by reason from 0: {reasons:?}");
@@ -111,6 +121,36 @@ fn same_batches() {
 }
 
 #[test]
+fn same_prefixes() {
+    let mut rng = Rng::new(6);
+    let mut reasons = [0; 11];
+    let mut longest = 0;
+    while reasons.iter().sum::<u32>() < 100_000 {
+        let image = generate::sound(&mut rng);
+        let aims = Aims::new(&image, &model::check(&image));
+        for _ in 0..100 {
+            let range = generate::range(&mut rng, &aims);
+            let plain = |out: &mut [u8]| model::prefixes(&range, out);
+            let count = plain(&mut []).count as usize;
+            let room = generate::room(&mut rng, &range, count);
+            let expected: (Prefixed, _) = with_room(room, FILL_BYTE, plain);
+            assert_eq!(
+                with_room(room, FILL_BYTE, |out| fast::prefixes(&range, out)),
+                expected,
+                "{range:02x?} in {room} bytes"
+            );
+            reasons[expected.0.reason as usize] += 1;
+            longest = longest.max(count);
+        }
+    }
+    println!("lists of prefixes by reason from 0: {reasons:?}");
+    for (reason, &lists) in reasons.iter().enumerate() {
+        assert_eq!(lists > 0, [0, 6, 9].contains(&reason), "reason {reason}");
+    }
+    assert_eq!(longest, MOST_PREFIXES);
+}
+
+#[test]
 fn same_defects() {
     let mut rng = Rng::new(3);
     let mut defects = [0; 8];
@@ -130,6 +170,7 @@ fn same_defects() {
         if expected.is_some() {
             assert!(fast::handle(&image, 0).is_empty());
             assert!(fast::name(&image, 0).is_empty());
+            assert!(fast::range(&image, 0).is_empty());
         }
     }
     println!("images by defect from 0: {defects:?}");

@@ -1,5 +1,6 @@
 //! Compares every public function with the model, call by call: the reply, the
-//! whole list afterwards or the part, and that nothing beside them was written.
+//! whole list or entries afterwards or the part, and that nothing beside them was
+//! written.
 //!
 //!     compare [--calls N] [--seed S] [--seconds T] [--image I] [--trace]
 //!
@@ -13,7 +14,7 @@ use model::{subject, Checked, Relation, RELATIONS};
 use std::process::ExitCode;
 use std::time::{Duration, Instant};
 
-const FUNCTIONS: [&str; 8] = [
+const FUNCTIONS: [&str; 10] = [
     "rdap_answer",
     "rdap_up",
     "rdap_down",
@@ -22,11 +23,15 @@ const FUNCTIONS: [&str; 8] = [
     "rdap_handle",
     "rdap_name",
     "rdap_batch",
+    "rdap_range",
+    "rdap_prefixes",
 ];
 const ANSWER: usize = 0;
 const HANDLE: usize = 5;
 const NAME: usize = 6;
 const BATCH: usize = 7;
+const RANGE: usize = 8;
+const PREFIXES: usize = 9;
 
 /// How often each reason occurred.
 type Reasons = [u64; 11];
@@ -124,6 +129,11 @@ fn pattern(place: usize) -> u32 {
     0xA5A5_0000 ^ (place as u32).wrapping_mul(0x0001_0003)
 }
 
+/// The same for a byte among the entries.
+fn byte_pattern(place: usize) -> u8 {
+    pattern(place) as u8 ^ 0xA5
+}
+
 struct Run {
     options: Options,
     calls: [u64; FUNCTIONS.len()],
@@ -131,11 +141,15 @@ struct Run {
     /// Those of the batches, and of the answers within them.
     batches: Reasons,
     answers: Reasons,
+    /// Those of the lists of prefixes, and how many the longest has.
+    lists: Reasons,
+    longest: u32,
     defects: [u64; 8],
     failed: u64,
     path: Guarded<u8>,
     image: Guarded<u8>,
     list: Guarded<u32>,
+    out: Guarded<u8>,
     reply: Guarded<u32>,
 }
 
@@ -175,10 +189,12 @@ impl Run {
                 let record = generate::record(&mut rng, &aims);
                 self.relation(number, &mut rng, relation, record, &image, &checked);
             }
-            for function in [HANDLE, NAME] {
+            for function in [HANDLE, NAME, RANGE] {
                 let record = generate::record(&mut rng, &aims);
                 self.part(number, function, record, &image, &checked);
             }
+            let range = generate::range(&mut rng, &aims);
+            self.prefixes(number, &mut rng, &range);
         }
     }
 
@@ -306,7 +322,7 @@ impl Run {
         if same_reply && same_list && intact && unchanged && self.image_is_whole(image) {
             return;
         }
-        self.report(number, function, image);
+        self.report_on(number, function, image);
         if function == ANSWER || function == BATCH {
             println!("  text     {}", path.escape_ascii());
             println!("  in hex   {}", hex(path));
@@ -334,24 +350,22 @@ impl Run {
     }
 
     fn part(&mut self, number: u64, function: usize, record: u32, image: &[u8], checked: &Checked) {
-        let wanted: [u32; 2] = if function == HANDLE {
-            model::handle_part(checked, record).into()
-        } else {
-            model::name_part(checked, record).into()
+        type Plain = fn(&Checked, u32) -> (u32, u32);
+        type Call = fn(&[u8], u32, &mut [u32; 2]);
+        let (plain, call): (Plain, Call) = match function {
+            HANDLE => (model::handle_part, subject::handle),
+            NAME => (model::name_part, subject::name),
+            _ => (model::range_part, subject::range),
         };
+        let wanted: [u32; 2] = plain(checked, record).into();
         self.trace(number, function, &format!("record {record}"));
         self.reply.place([0xFFFF_FFFF; 2].into_iter(), 0);
-        let part: &mut [u32; 2] = self.reply.contents_mut().try_into().expect("two words");
-        if function == HANDLE {
-            subject::handle(self.image.contents(), record, part);
-        } else {
-            subject::name(self.image.contents(), record, part);
-        }
+        call(self.image.contents(), record, as_pair(&mut self.reply));
         self.calls[function] += 1;
         if self.reply.contents() == wanted && self.reply.is_intact() && self.image_is_whole(image) {
             return;
         }
-        self.report(number, function, image);
+        self.report_on(number, function, image);
         println!("  record   {record}");
         println!("  expected {wanted:?} (offset, length)");
         println!("  got      {:?}", self.reply.contents());
@@ -361,16 +375,69 @@ impl Run {
         }
     }
 
+    fn prefixes(&mut self, number: u64, rng: &mut Rng, range: &[u8]) {
+        let full = model::prefixes(range, &mut []);
+        let room = generate::room(rng, range, full.count as usize);
+        let mut expected: Vec<u8> = (0..room).map(byte_pattern).collect();
+        let wanted = model::prefixes(range, &mut expected);
+        self.calls[PREFIXES] += 1;
+        self.lists[wanted.reason as usize] += 1;
+        self.longest = self.longest.max(wanted.count);
+
+        self.trace(number, PREFIXES, &format!("{} in {room} bytes", hex(range)));
+        self.path.place(range.iter().copied(), rng.below(8));
+        self.out.place((0..room).map(byte_pattern), rng.below(8));
+        self.reply.place([0xFFFF_FFFF; 2].into_iter(), rng.below(4));
+        subject::prefixes(
+            self.path.contents(),
+            self.out.contents_mut(),
+            as_pair(&mut self.reply),
+        );
+        self.judge_prefixes(number, range, wanted, &expected);
+    }
+
+    fn judge_prefixes(
+        &mut self,
+        number: u64,
+        range: &[u8],
+        wanted: model::Prefixed,
+        expected: &[u8],
+    ) {
+        let same_reply = self.reply.contents() == wanted.numbers();
+        let same_out = self.out.contents() == expected;
+        let intact = self.out.is_intact() && self.reply.is_intact();
+        let unchanged = self.path.contents() == range && self.path.is_intact();
+        if same_reply && same_out && intact && unchanged {
+            return;
+        }
+        self.report(number, PREFIXES);
+        println!("  range    {}", hex(range));
+        println!("  room     {} bytes", expected.len());
+        println!("  expected {:?} (reason, count)", wanted.numbers());
+        println!("  got      {:?}", self.reply.contents());
+        if !same_out {
+            println!("  expected {}", hex(expected));
+            println!("  got      {}", hex(self.out.contents()));
+        }
+        if !intact || !unchanged {
+            println!("  a byte beside the buffers, or the range, was written");
+        }
+    }
+
     fn image_is_whole(&self, image: &[u8]) -> bool {
         self.image.contents() == image && self.image.is_intact()
     }
 
-    fn report(&mut self, number: u64, function: usize, image: &[u8]) {
+    fn report(&mut self, number: u64, function: usize) {
         self.failed += 1;
         println!(
             "{} differs; again with --seed {} --image {number}",
             FUNCTIONS[function], self.options.seed
         );
+    }
+
+    fn report_on(&mut self, number: u64, function: usize, image: &[u8]) {
+        self.report(number, function);
         // A short image is shown; a longer one the options make again.
         let shown = image.len().min(4096);
         println!("  image    {} bytes", image.len());
@@ -390,6 +457,10 @@ impl Run {
 
 fn as_reply(buffer: &mut Guarded<u32>) -> &mut [u32; 7] {
     buffer.contents_mut().try_into().expect("seven words")
+}
+
+fn as_pair(buffer: &mut Guarded<u32>) -> &mut [u32; 2] {
+    buffer.contents_mut().try_into().expect("two words")
 }
 
 fn hex(bytes: &[u8]) -> String {
@@ -413,11 +484,14 @@ fn main() -> ExitCode {
         reasons: [0; 11],
         batches: [0; 11],
         answers: [0; 11],
+        lists: [0; 11],
+        longest: 0,
         defects: [0; 8],
         failed: 0,
         path: Guarded::new(0xC3),
         image: Guarded::new(0x3C),
         list: Guarded::new(0xDEAD_BEEF),
+        out: Guarded::new(0x96),
         reply: Guarded::new(0xFEED_F00D),
     };
     match only {
@@ -442,8 +516,12 @@ fn main() -> ExitCode {
     println!("replies by reason, from 0: {:?}", run.reasons);
     println!("of these, batches: {:?}", run.batches);
     println!("answers in batches, by reason: {:?}", run.answers);
+    println!(
+        "lists of prefixes, by reason: {:?}; at most {} prefixes",
+        run.lists, run.longest
+    );
     for (name, calls) in FUNCTIONS.iter().zip(run.calls) {
-        println!("{name:12} {calls:>9} calls");
+        println!("{name:13} {calls:>9} calls");
     }
     let all: u64 = run.calls.iter().sum();
     println!("{} passed, {} failed", all - run.failed, run.failed);
