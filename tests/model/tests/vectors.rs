@@ -2,12 +2,14 @@
 //! with the feature `ffi`, else `src/fast.rs`. The folder is given by the
 //! variable VECTORS, else it is `../vectors` beside this package.
 
-use model::{subject, Relation, Reply};
+use model::{generate, subject, Prefixed, Range, Relation, Reply, IPV4, IPV6};
 use std::fs;
 use std::path::PathBuf;
 
 const PLACES: usize = 4096;
 const FILL: u32 = 0xA5A5_5A5A;
+/// No length of a prefix, which each entry ends with.
+const FILL_BYTE: u8 = 0xA5;
 
 /// The public functions of one implementation.
 struct Calls {
@@ -17,6 +19,8 @@ struct Calls {
     relation: fn(&[u8], u32, Relation, &mut [u32]) -> Reply,
     handle: fn(&[u8], u32) -> &[u8],
     name_of: fn(&[u8], u32) -> &[u8],
+    range: fn(&[u8], u32) -> &[u8],
+    prefixes: fn(&[u8], &mut [u8]) -> Prefixed,
     defect: fn(&[u8]) -> (u32, u32),
 }
 
@@ -28,6 +32,8 @@ const BOTH: [Calls; 2] = [
         relation: model::relation,
         handle: model::handle,
         name_of: model::name,
+        range: model::range,
+        prefixes: model::prefixes,
         defect: |image| match model::check(image) {
             Ok(_) => (0, 0),
             Err(found) => (found.defect, found.place),
@@ -40,15 +46,14 @@ const BOTH: [Calls; 2] = [
         relation: |image, record, relation, list| {
             reply_of(|reply| subject::relation(relation, image, record, list, reply))
         },
-        handle: |image, record| {
-            let mut part = [0; 2];
-            subject::handle(image, record, &mut part);
-            part_of(image, part)
-        },
-        name_of: |image, record| {
-            let mut part = [0; 2];
-            subject::name(image, record, &mut part);
-            part_of(image, part)
+        handle: |image, record| part_of(image, |part| subject::handle(image, record, part)),
+        name_of: |image, record| part_of(image, |part| subject::name(image, record, part)),
+        range: |image, record| part_of(image, |part| subject::range(image, record, part)),
+        prefixes: |range, out| {
+            let mut reply = [FILL; 2];
+            subject::prefixes(range, out, &mut reply);
+            let [reason, count] = reply;
+            Prefixed { reason, count }
         },
         defect: |image| {
             let reply = reply_of(|reply| subject::answer(b"/help", image, &mut [], reply));
@@ -73,7 +78,11 @@ fn reply_of(call: impl FnOnce(&mut [u32; 7])) -> Reply {
     }
 }
 
-fn part_of(image: &[u8], [offset, length]: [u32; 2]) -> &[u8] {
+/// The part of the image that a call names.
+fn part_of(image: &[u8], call: impl FnOnce(&mut [u32; 2])) -> &[u8] {
+    let mut part = [FILL; 2];
+    call(&mut part);
+    let [offset, length] = part;
     &image[offset as usize..][..length as usize]
 }
 
@@ -221,7 +230,7 @@ fn run_batches(name: &str, calls: &Calls, image: &[u8], paths: &[&[u8]], expecte
             [200, 0, 0, 0, expected.len() as u32, 0, 0],
             "{name}"
         );
-        tally.row(&paths, &expected.join(&b' '), &column(written(&list)));
+        tally.row(&paths, &expected.join(&b' '), &column(written(&list, FILL)));
     }
     tally.close();
 }
@@ -333,6 +342,7 @@ fn defects() {
         if defect != 0 {
             assert!((calls.handle)(&image, 0).is_empty());
             assert!((calls.name_of)(&image, 0).is_empty());
+            assert!((calls.range)(&image, 0).is_empty());
         }
     });
 }
@@ -351,13 +361,21 @@ fn input(folder: &str, column: &[u8]) -> Vec<u8> {
 /// Numbers as a column has them.
 fn column(numbers: &[u32]) -> Vec<u8> {
     let texts: Vec<String> = numbers.iter().map(u32::to_string).collect();
-    let text = texts.join(" ");
+    or_none(texts.join(" "))
+}
+
+/// Bytes as a column has them, if not in a file.
+fn hex_column(bytes: &[u8]) -> Vec<u8> {
+    or_none(bytes.iter().map(|byte| format!("{byte:02x}")).collect())
+}
+
+fn or_none(text: String) -> Vec<u8> {
     if text.is_empty() { "-".into() } else { text }.into()
 }
 
 /// The list up to the last place that was written.
-fn written(list: &[u32]) -> &[u32] {
-    let end = list.iter().rposition(|&place| place != FILL);
+fn written<T: PartialEq>(list: &[T], fill: T) -> &[T] {
+    let end = list.iter().rposition(|place| *place != fill);
     &list[..end.map_or(0, |at| at + 1)]
 }
 
@@ -384,12 +402,32 @@ fn run_row(calls: &Calls, folder: &str, row: &[&[u8]]) -> [Vec<u8>; 2] {
         b"batch" => numbers((calls.batch)(&text(), &image, &mut list)),
         b"handle" => span((calls.handle)(&image, record())),
         b"name" => span((calls.name_of)(&image, record())),
+        b"range" => span((calls.range)(&image, record())),
         relation => {
             let relation = relation_named(relation);
             numbers((calls.relation)(&image, record(), relation, &mut list))
         }
     };
-    [column(&reply), column(written(&list))]
+    [column(&reply), column(written(&list, FILL))]
+}
+
+/// The same for the call that takes a range and lends bytes.
+fn run_prefixes(calls: &Calls, folder: &str, row: &[&[u8]]) -> [Vec<u8>; 2] {
+    let mut out = vec![FILL_BYTE; number(row[3])];
+    let reply = (calls.prefixes)(&input(folder, row[1]), &mut out);
+    [
+        column(&reply.numbers()),
+        hex_column(written(&out, FILL_BYTE)),
+    ]
+}
+
+/// What a call is to reply and to write.
+fn expected_of(folder: &str, row: &[&[u8]]) -> [Vec<u8>; 2] {
+    let output = match row[5] {
+        [b'@', ..] => hex_column(&input(folder, row[5])),
+        text => text.to_vec(),
+    };
+    [row[4].to_vec(), output]
 }
 
 /// Each folder of `changes` holds the rules as they stand after the change of
@@ -410,8 +448,13 @@ fn changes() {
         }
         run_table(&format!("{folder}/rows.tsv"), |calls, row, tally| {
             if newest <= number(row[7]) {
-                let got = run_row(calls, &folder, row);
-                tally.row(row[8], &row[4..6].join(&b'\t'), &got.join(&b'\t'));
+                let run = match row[0] {
+                    b"rdap_prefixes" => run_prefixes,
+                    _ => run_row,
+                };
+                let expected = expected_of(&folder, row).join(&b'\t');
+                let got = run(calls, &folder, row).join(&b'\t');
+                tally.row(row[8], &expected, &got);
             }
         });
     }
@@ -436,9 +479,73 @@ fn whole_image() {
         let name = (calls.name_of)(&image, 0);
         assert_eq!(name, b"B");
         assert_eq!(name.as_ptr(), image[25..].as_ptr());
+        let range = (calls.range)(&image, 0);
+        assert_eq!(range, [0, 0, 0, 12, 0, 0, 0, 15]);
+        assert_eq!(range.as_ptr(), image[10..].as_ptr());
         assert!((calls.handle)(&image, 1).is_empty());
         assert!((calls.name_of)(&image, u32::MAX).is_empty());
+        assert!((calls.range)(&image, 1).is_empty());
     }
+}
+
+/// The lengths of the shortest lists of prefixes for each start of a range up to
+/// `last`, which is below 64, and 0 for one after it. Any prefix that starts there
+/// may come first.
+fn fewest(last: usize) -> Vec<usize> {
+    let mut fewest = vec![0; last + 2];
+    for first in (0..=last).rev() {
+        let sizes = (0..7).map(|after| 1 << after);
+        let ends = sizes
+            .filter(|size| first % size == 0 && first + size <= last + 1)
+            .map(|size| first + size);
+        fewest[first] = 1 + ends.map(|end| fewest[end]).min().expect("a range of one");
+    }
+    fewest
+}
+
+/// "the prefixes in ascending order that together hold exactly that range, and no
+/// shorter list does": every range among 64 addresses.
+#[test]
+fn shortest() {
+    let runs = [
+        (IPV4, 0),
+        (IPV4, 0xC000_0200),
+        (IPV4, u128::from(u32::MAX) - 63),
+        (IPV6, (1 << 64) - 64),
+        (IPV6, u128::MAX - 63),
+    ];
+    for (calls, (family, base)) in BOTH.iter().flat_map(|calls| runs.map(|run| (calls, run))) {
+        for last in 0..64 {
+            for (first, fewest) in fewest(last)[..=last].iter().enumerate() {
+                let (first, last) = (base + first as u128, base + last as u128);
+                let range = generate::ends(family, Range { first, last });
+                let mut out = vec![FILL_BYTE; fewest * (range.len() / 2 + 1)];
+                let reply = (calls.prefixes)(&range, &mut out);
+                assert_eq!(reply.numbers(), [0, *fewest as u32], "{range:02x?}");
+                assert_exact(&range, &out);
+            }
+        }
+    }
+}
+
+/// Each entry starts where the one before it ends, the first and the last as the
+/// range does.
+fn assert_exact(range: &[u8], entries: &[u8]) {
+    let (first, last) = range.split_at(range.len() / 2);
+    let number = |bytes: &[u8]| {
+        let mut all = [0; 16];
+        all[16 - bytes.len()..].copy_from_slice(bytes);
+        u128::from_be_bytes(all)
+    };
+    let mut next = number(first);
+    for entry in entries.chunks(first.len() + 1) {
+        let (&length, address) = entry.split_last().expect("an entry");
+        let size = 1 << (8 * first.len() - usize::from(length));
+        assert_eq!(number(address), next, "{range:02x?}");
+        assert_eq!(next % size, 0, "{range:02x?}");
+        next = next.wrapping_add(size);
+    }
+    assert_eq!(next, number(last).wrapping_add(1), "{range:02x?}");
 }
 
 /// The cases of S13.2.
