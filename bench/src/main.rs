@@ -2,20 +2,22 @@
 //! the same run and by turns; each figure is the least of many repetitions.
 //!
 //!     bench [--shape NAME] [--kind TEXT] [--repetitions N] [--seconds T]
-//!           [--table | --over-check]
+//!           [--table | --over-check | --prefixes]
 //!
 //! N repetitions (40) of every row, fewer if T seconds (100) are over before.
-//! Every call checks the image. The row `check` is the path `/help`, which does
-//! nothing else; the rows `batch` are 64 lookups in one call. Growth is the time
-//! for 4,096 records over that for 2,048.
+//! Every call on an image checks it. The row `check` is the path `/help`, which
+//! does nothing else; the rows `batch` are 64 lookups in one call. Growth is the
+//! time for 4,096 records over that for 2,048.
 //! `--table` prints the figures for 4,096 records as a table of Markdown.
 //! `--over-check` measures the lookups by name and by handle on 4,096 records, and
 //! beside each the check alone, in place of the Rust.
+//! `--prefixes` measures the lists of prefixes of ranges, for which there is no
+//! image: the longest ones, one prefix, and a room that is a byte too short.
 
 use model::generate::{Draft, Rng};
 use model::{
     fast, generate, subject, Part, Range, Record, Relation, AS, DOMAIN, ENTITY, IPV4, IPV6,
-    MOST_PATHS, MOST_RECORDS, NAMESERVER,
+    MOST_PATHS, MOST_PREFIXES, MOST_RECORDS, NAMESERVER,
 };
 use std::collections::BTreeSet;
 use std::hint::black_box;
@@ -37,6 +39,10 @@ const BY_TEXT: [(&str, u8); 3] = [
 
 /// Places of the list: enough for every answer, and for 64 lookups in a batch.
 const PLACES: usize = MOST_RECORDS;
+
+/// Bytes for entries: enough for every list of prefixes, by family.
+const ROOM: usize = MOST_PREFIXES * 17;
+const ROOM_V4: usize = 62 * 5;
 
 /// A turn takes about so many nanoseconds.
 const TURN: f64 = 150_000.0;
@@ -213,6 +219,22 @@ fn image(shape: &str, count: usize) -> Vec<u8> {
 
 // Calls
 
+/// What is lent to a call.
+#[derive(PartialEq)]
+struct Lent {
+    list: [u32; PLACES],
+    out: [u8; ROOM],
+}
+
+impl Lent {
+    fn new() -> Lent {
+        Lent {
+            list: [u32::MAX; PLACES],
+            out: [u8::MAX; ROOM],
+        }
+    }
+}
+
 /// One of the public functions with its input.
 enum Call {
     Answer(Vec<u8>),
@@ -220,10 +242,14 @@ enum Call {
     Related(Relation, u32),
     Handle(u32),
     Name(u32),
+    Range(u32),
+    /// A range and how many bytes are lent.
+    Prefixes(Vec<u8>, usize),
 }
 
 impl Call {
-    fn fast(&self, image: &[u8], list: &mut [u32]) -> u32 {
+    fn fast(&self, image: &[u8], lent: &mut Lent) -> u32 {
+        let list = &mut lent.list;
         match self {
             Call::Answer(path) => fast::answer(path, image, list).count,
             Call::Batch(paths) => fast::batch(paths, image, list).count,
@@ -232,10 +258,13 @@ impl Call {
             }
             Call::Handle(record) => fast::handle_part(image, *record).1,
             Call::Name(record) => fast::name_part(image, *record).1,
+            Call::Range(record) => fast::range_part(image, *record).1,
+            Call::Prefixes(range, room) => fast::prefixes(range, &mut lent.out[..*room]).count,
         }
     }
 
-    fn subject(&self, image: &[u8], list: &mut [u32]) -> u32 {
+    fn subject(&self, image: &[u8], lent: &mut Lent) -> u32 {
+        let list = &mut lent.list;
         let mut reply = [0; 7];
         let mut part = [0; 2];
         match self {
@@ -257,6 +286,14 @@ impl Call {
             }
             Call::Name(record) => {
                 subject::name(image, *record, &mut part);
+                part[1]
+            }
+            Call::Range(record) => {
+                subject::range(image, *record, &mut part);
+                part[1]
+            }
+            Call::Prefixes(range, room) => {
+                subject::prefixes(range, &mut lent.out[..*room], &mut part);
                 part[1]
             }
         }
@@ -410,6 +447,7 @@ fn calls(registry: &Registry) -> Vec<(String, Call)> {
         ("third bottom", Call::Related(Relation::Bottom, 0)),
         ("handle", Call::Handle(last)),
         ("name", Call::Name(last)),
+        ("range", Call::Range(last_block)),
         ("batch ip v4", registry.batch("/ip/", IPV4)),
         ("batch ip v6", registry.batch("/ip/", IPV6)),
         ("batch domain", registry.batch("/domain/", DOMAIN)),
@@ -424,6 +462,28 @@ fn calls(registry: &Registry) -> Vec<(String, Call)> {
         .collect()
 }
 
+/// Lists of prefixes: of all addresses but the two at the ends, which are the
+/// longest, and of ranges that are a prefix.
+fn lists() -> Vec<(String, Call)> {
+    let list = |family, first, last, short| {
+        let range = generate::ends(family, Range { first, last });
+        let room = if family == IPV6 { ROOM } else { ROOM_V4 };
+        Call::Prefixes(range, room - short)
+    };
+    let all = |family, most: u128, short| list(family, 1, most - 1, short);
+    let (v4, v6) = (u128::from(u32::MAX), u128::MAX);
+    let net: u128 = 0x2001_0DB8 << 96;
+    let lists = [
+        ("254 prefixes v6", all(IPV6, v6, 0)),
+        ("a byte short v6", all(IPV6, v6, 1)),
+        ("one prefix v6", list(IPV6, net, net | v6 >> 32, 0)),
+        ("62 prefixes v4", all(IPV4, v4, 0)),
+        ("a byte short v4", all(IPV4, v4, 1)),
+        ("one prefix v4", list(IPV4, 0xC000_0200, 0xC000_02FF, 0)),
+    ];
+    lists.map(|(kind, call)| (kind.into(), call)).into()
+}
+
 // Measuring
 
 /// One call on one image, and the least time so far of what it is measured
@@ -436,21 +496,30 @@ struct Cell<'a> {
     least: (f64, f64),
 }
 
-impl Cell<'_> {
+impl<'a> Cell<'a> {
+    fn new(image: &'a [u8], call: Call, beside: Option<Call>) -> Cell<'a> {
+        Cell {
+            image,
+            call,
+            beside,
+            least: (f64::INFINITY, f64::INFINITY),
+        }
+    }
+
     fn ratio(&self) -> f64 {
         self.least.1 / self.least.0
     }
 
     /// A turn each. Those of a cell are spread over the whole run, so that other
     /// load spoils no cell for good.
-    fn measure(&mut self, list: &mut [u32]) {
+    fn measure(&mut self, lent: &mut Lent) {
         let (image, call) = (black_box(self.image), black_box(&self.call));
         let took = turn(self.least.0, || match &self.beside {
-            None => call.fast(image, list),
-            Some(other) => other.subject(image, list),
+            None => call.fast(image, lent),
+            Some(other) => other.subject(image, lent),
         });
         self.least.0 = self.least.0.min(took);
-        let took = turn(self.least.1, || call.subject(image, list));
+        let took = turn(self.least.1, || call.subject(image, lent));
         self.least.1 = self.least.1.min(took);
     }
 }
@@ -472,6 +541,7 @@ enum Print {
     Rows,
     Table,
     OverCheck,
+    Prefixes,
 }
 
 /// What the words on the command line ask for.
@@ -506,6 +576,7 @@ impl Options {
                 "--seconds" => options.seconds = value().parse().expect("a number"),
                 "--table" => options.print = Print::Table,
                 "--over-check" => options.print = Print::OverCheck,
+                "--prefixes" => options.print = Print::Prefixes,
                 _ => panic!("{word}: no such option"),
             }
         }
@@ -547,17 +618,21 @@ impl Options {
             calls.retain(|(name, _)| name.split(' ').next().is_some_and(by_text));
             calls.sort_by(|one, other| one.0.cmp(&other.0));
         }
-        calls.retain(|(name, _)| self.kind.as_ref().is_none_or(|kind| name.contains(kind)));
+        calls.retain(|(name, _)| self.asks_for(name));
         calls
+    }
+
+    fn asks_for(&self, name: &str) -> bool {
+        self.kind.as_ref().is_none_or(|kind| name.contains(kind))
     }
 }
 
 /// The kinds of calls of a shape, and for each the sizes.
 type Rows<'a> = Vec<(String, Vec<Cell<'a>>)>;
 
-/// Both give the same, in the whole list too.
+/// Both give the same, in all that is lent too.
 fn assert_same(name: &str, call: &Call, image: &[u8]) {
-    let (mut fast, mut library) = ([u32::MAX; PLACES], [u32::MAX; PLACES]);
+    let (mut fast, mut library) = (Lent::new(), Lent::new());
     let counts = (
         call.fast(image, &mut fast),
         call.subject(image, &mut library),
@@ -576,15 +651,21 @@ fn rows<'a>(images: &'a [Vec<u8>], options: &Options) -> Rows<'a> {
                 rows.push((name, Vec::new()));
             }
             let check = || Call::Answer(b"/help".to_vec());
-            rows[at].1.push(Cell {
-                image,
-                call,
-                beside: options.over_check().then(check),
-                least: (f64::INFINITY, f64::INFINITY),
-            });
+            let beside = options.over_check().then(check);
+            rows[at].1.push(Cell::new(image, call, beside));
         }
     }
     rows
+}
+
+fn list_rows(options: &Options) -> Rows<'static> {
+    let mut lists = lists();
+    lists.retain(|(name, _)| options.asks_for(name));
+    let row = |(name, call): (String, Call)| {
+        assert_same(&name, &call, &[]);
+        (name, vec![Cell::new(&[], call, None)])
+    };
+    lists.into_iter().map(row).collect()
 }
 
 fn print_rows(shape: &str, images: &[Vec<u8>], rows: &Rows) {
@@ -652,9 +733,26 @@ fn print_over_check(shapes: &[(&str, Vec<Vec<u8>>)], tables: &[Rows]) {
         }
         println!();
     }
-    let cells = tables.iter().flatten().flat_map(|(_, cells)| cells);
-    let most = cells.map(Cell::ratio).fold(0.0, f64::max);
+    let most = largest_ratio(tables);
     println!("at 4,096 records: largest row/check {most:.3}");
+}
+
+fn print_prefixes(rows: &Rows) {
+    println!(
+        "{:16} {:>8} {:>8}  library/fast",
+        "ns a call", "fast", "library"
+    );
+    for (kind, cells) in rows {
+        let (fast, library) = cells[0].least;
+        let ratio = cells[0].ratio();
+        println!("{kind:16} {fast:8.1} {library:8.1} {ratio:13.2}");
+    }
+    println!();
+}
+
+fn largest_ratio(tables: &[Rows]) -> f64 {
+    let cells = tables.iter().flatten().flat_map(|(_, cells)| cells);
+    cells.map(Cell::ratio).fold(0.0, f64::max)
 }
 
 /// The largest figures of the run.
@@ -679,7 +777,7 @@ fn print_summary(tables: &[Rows]) {
     );
     println!(
         "at any size: largest library/fast {:.2}; largest growth {:.2}",
-        most(|cells| cells.iter().map(Cell::ratio).fold(0.0, f64::max)),
+        largest_ratio(tables),
         most(|cells| cells[4].least.1 / cells[3].least.1)
     );
 }
@@ -689,7 +787,7 @@ fn measure(tables: &mut [Rows], options: &Options) -> u32 {
     // Over the check, each repetition stays with an image for some rounds: the
     // first turns on one are slower, until the processor foresees its branches.
     let rounds = if options.over_check() { 10 } else { 1 };
-    let mut list = vec![0; PLACES];
+    let mut lent = Lent::new();
     let start = Instant::now();
     let mut done = 0;
     while done < options.repetitions && (done == 0 || start.elapsed().as_secs() < options.seconds) {
@@ -697,7 +795,7 @@ fn measure(tables: &mut [Rows], options: &Options) -> u32 {
         for rows in tables.iter_mut() {
             for _ in 0..rounds {
                 let cells = rows.iter_mut().flat_map(|(_, cells)| cells);
-                cells.for_each(|cell| cell.measure(&mut list));
+                cells.for_each(|cell| cell.measure(&mut lent));
             }
         }
     }
@@ -706,13 +804,22 @@ fn measure(tables: &mut [Rows], options: &Options) -> u32 {
 
 fn main() {
     let options = Options::read();
-    let shapes = options.shapes();
+    let lists_only = options.print == Print::Prefixes;
+    let shapes = if lists_only {
+        Vec::new()
+    } else {
+        options.shapes()
+    };
     let mut tables: Vec<Rows> = shapes
         .iter()
         .map(|(_, images)| rows(images, &options))
         .collect();
+    if lists_only {
+        tables.push(list_rows(&options));
+    }
     let done = measure(&mut tables, &options);
     match options.print {
+        Print::Prefixes => print_prefixes(&tables[0]),
         Print::OverCheck => print_over_check(&shapes, &tables),
         Print::Table => print_table(&shapes, &tables),
         Print::Rows => {
@@ -722,7 +829,9 @@ fn main() {
         }
     }
     println!("{done} repetitions");
-    if !options.over_check() {
-        print_summary(&tables);
+    match options.print {
+        Print::OverCheck => {}
+        Print::Prefixes => println!("largest library/fast {:.2}", largest_ratio(&tables)),
+        Print::Rows | Print::Table => print_summary(&tables),
     }
 }
