@@ -5,16 +5,16 @@
  * It needs memcpy and memset and nothing else.
  *
  * Memory. The caller owns every buffer, before, during and after a call. Nothing is allocated and no pointer is kept.
- * path, paths and image are read only. A call writes to list, reply and part and to nothing else.
- * - path, paths, image and list may be NULL if their length is 0, and only then; nothing is read or written
+ * path, paths, image and range are read only. A call writes to list, out, reply and part and to nothing else.
+ * - path, paths, image, range, list and out may be NULL if their length is 0, and only then; nothing is read or written
  *   through them then.
- * - reply has 7 places and part has 2; neither may be NULL.
- * - list and reply are aligned as uint32_t is. list, reply and part may not overlap each other, path, paths or image;
- *   path or paths and image may overlap.
+ * - reply has 7 places, of rdap_prefixes 2, and part has 2; none may be NULL.
+ * - list, reply and part are aligned as uint32_t is. list, out, reply and part may not overlap each other or what is read;
+ *   what is read may overlap, and a range may be a part of an image.
  * - Buffers have the lengths that are named, and no other thread writes to them during the call.
  *
  * Calls are pure: there is no state, the result depends on the arguments alone, and no call fails, waits or sets errno.
- * Calls may run in parallel, on the same image too, if each has its own list and reply or part.
+ * Calls may run in parallel, on the same image too, if each has its own list or out and reply or part.
  * A relation needs some 75 kB of stack, in a batch too, any other call some 40 kB.
  */
 #ifndef RDAP_H
@@ -94,6 +94,35 @@ void rdap_bottom(const uint8_t *image, size_t image_len, uint32_t record,
  * Both are 0 if the image is defective or there is no such record (S2.2). */
 void rdap_handle(const uint8_t *image, size_t image_len, uint32_t record, uint32_t part[2]);
 void rdap_name(const uint8_t *image, size_t image_len, uint32_t record, uint32_t part[2]);
+
+/* The range of a block, field 20 of its record (S4.3), alike: first and last, high byte first, 8 bytes or, of an IPv6
+ * network, 32. Both are 0 too if the record is no block (S2.7).
+ * An AS block gives 8 bytes as an IPv4 network does, and rdap_prefixes would read them as addresses. They are told apart
+ * by the tag of the record, at image[part[0] - 6] if part[1] is not 0, or by what the path asked: kind 1 is answered
+ * by networks, kind 2 by AS blocks, kinds 7 and 8 by either. */
+void rdap_range(const uint8_t *image, size_t image_len, uint32_t record, uint32_t part[2]);
+
+/* The tags of blocks (S4.3) */
+enum {
+    RDAP_IPV4_NETWORK = 0x10,
+    RDAP_IPV6_NETWORK = 0x11,
+    RDAP_AS_BLOCK = 0x12
+};
+
+/* An out of so many bytes is never too short: IPv6 needs at most 254 prefixes, IPv4 at most 62 (310 bytes). */
+enum { RDAP_PREFIXES_ROOM = 4318 };
+
+/* Writes the prefixes that together hold exactly the addresses of a range, ascending; no shorter list does (S2.6).
+ * range is first and last, high byte first, 8 bytes (IPv4) or 32 (IPv6), as rdap_range finds it: image + part[0], part[1].
+ * An entry is the address in 4 or 16 bytes, then the prefix length in one byte.
+ * It takes no path and gives a reason without a status: reply[0] is the reason, reply[1] the count.
+ *
+ *   6  range has another length, or first is above last; count is 0
+ *   9  out is too short for all entries; count is the number of prefixes, not of bytes, that are needed
+ *   0  count is the number of prefixes written; what follows their entries is unchanged
+ *
+ * Under 6 and 9 the whole out is unchanged. */
+void rdap_prefixes(const uint8_t *range, size_t range_len, uint8_t *out, size_t out_len, uint32_t reply[2]);
 
 #ifdef __cplusplus
 }

@@ -1,5 +1,5 @@
 /* Every function on the image of one AS block (12 to 15, handle A, name B), with and without room, and with NULL for what is empty.
- * Writes a line for each call, and one for the list where it matters. */
+ * Writes a line for each call, and one for the list or out where it matters. */
 #include <inttypes.h>
 #include <stdio.h>
 #include <string.h>
@@ -56,6 +56,52 @@ static void batches(void)
     batch("nothing", NULL, 0, 0, 0);
 }
 
+/* The reply of rdap_prefixes, and an out of 24 bytes of which it is lent the first ones. */
+static void prefixes(const char *name, const uint8_t *range, size_t range_len, size_t room)
+{
+    uint8_t out[24];
+    uint32_t bytes[24];
+    uint32_t reply[2];
+
+    memset(out, 7, 24);
+    rdap_prefixes(range, range_len, room == 0 ? NULL : out, room, reply);
+    line(name, reply, 2);
+    for (int i = 0; i < 24; i++)
+        bytes[i] = out[i];
+    line("out", bytes, 24);
+}
+
+static void ranges(void)
+{
+    const uint8_t one_to_six[8] = {192, 0, 2, 1, 192, 0, 2, 6};
+    const uint8_t turned[8] = {192, 0, 2, 6, 192, 0, 2, 1};
+    const uint8_t zeros[33] = {0};
+    uint32_t part[2];
+
+    rdap_range(image, 30, 0, part);
+    line("range", part, 2);
+    prefixes("range of the AS block, read as IPv4", image + part[0], part[1], 24);
+    rdap_range(image, 30, 1, part);
+    line("range, no record", part, 2);
+    rdap_range(image, 29, 0, part);
+    line("range, cut image", part, 2);
+    rdap_range(NULL, 0, 0, part);
+    line("range, no image", part, 2);
+    prefixes("prefixes", one_to_six, 8, 24);
+    prefixes("20 bytes", one_to_six, 8, 20);
+    prefixes("19 bytes", one_to_six, 8, 19);
+    prefixes("no bytes", one_to_six, 8, 0);
+    prefixes("first above last", turned, 8, 24);
+    prefixes("first above last, no bytes", turned, 8, 0);
+    prefixes("IPv6", zeros, 32, 24);
+    prefixes("IPv6, 16 bytes", zeros, 32, 16);
+    prefixes("a range of 7 bytes", one_to_six, 7, 24);
+    prefixes("a range of 16 bytes", zeros, 16, 24);
+    prefixes("a range of 33 bytes", zeros, 33, 24);
+    prefixes("no range", NULL, 0, 24);
+    prefixes("no range, no bytes", NULL, 0, 0);
+}
+
 int main(void)
 {
     const uint8_t *path = (const uint8_t *)"/autnum/12";
@@ -91,5 +137,6 @@ int main(void)
     rdap_handle(NULL, 0, 0, part);
     line("no image", part, 2);
     batches();
+    ranges();
     return 0;
 }
