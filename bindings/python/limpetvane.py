@@ -5,18 +5,26 @@
     answer.kind, answer.records                         # Kind.IP, [2]
     library.handle(image, 2)                            # b"S2"
     library.batch(["/ip/192.0.2.1", "/x"], image)       # [Answer(..), Refused(..)]
+    library.record_prefixes(image, 2)                   # [IPv4Network("192.0.2.0/28")]
 
 A refusal is raised as Refused, with its reason and status; that of a path in a batch is a value in the list.
+That of a range, which has no status, is raised as RangeRefused.
 Calls are pure and may run in threads.
 """
 import ctypes
 import enum
+from ipaddress import IPv4Address, IPv4Network, IPv6Address, IPv6Network
 from typing import List, NamedTuple, Optional, Sequence, Union
 
 #: An image has at most so many records, so a list of so many places is never too short.
 RECORDS = 4096
 #: A batch has at most so many paths.
 PATHS = 64
+#: The prefixes of a range take at most so many bytes: 254 of IPv6, of 17 bytes each.
+PREFIXES_ROOM = 4318
+
+Address = Union[IPv4Address, IPv6Address]
+Network = Union[IPv4Network, IPv6Network]
 
 
 class Kind(enum.IntEnum):
@@ -68,8 +76,22 @@ class Refused(Exception):
         return hash(self.args)
 
 
+class RangeRefused(Exception):
+    """A refusal of a range, which has a reason and no status: 6 if first is above last, 9 if there is too little room.
+    count is the number of prefixes needed under reason 9."""
+
+    def __init__(self, reason, count):
+        super().__init__(reason, count)
+        self.reason, self.count = reason, count
+
+    def __str__(self):
+        return f"reason {self.reason}"
+
+
+#: The tag of an AS block, and how far before its range the tag of a block stands.
+_AS_BLOCK, _TAG_BEFORE = 0x12, 6
 _Reply = ctypes.c_uint32 * 7
-_Part = ctypes.c_uint32 * 2
+_Pair = ctypes.c_uint32 * 2
 
 
 class Library:
@@ -89,10 +111,12 @@ class Library:
         }
         for function in self._relations.values():
             function.argtypes = bytes_in + [ctypes.c_uint32] + numbers_out
-        self._parts = (library.rdap_handle, library.rdap_name)
+        self._parts = (library.rdap_handle, library.rdap_name, library.rdap_range)
         for function in self._parts:
             function.argtypes = bytes_in + [ctypes.c_uint32, ctypes.POINTER(ctypes.c_uint32)]
-        for function in (self._answer, self._batch, *self._relations.values(), *self._parts):
+        self._prefixes = library.rdap_prefixes
+        self._prefixes.argtypes = bytes_in + [ctypes.POINTER(ctypes.c_char), ctypes.c_size_t, ctypes.POINTER(ctypes.c_uint32)]
+        for function in (self._answer, self._batch, *self._relations.values(), *self._parts, self._prefixes):
             function.restype = None
 
     def answer(self, path: Union[str, bytes], image: bytes, places: int = RECORDS) -> Answer:
@@ -128,6 +152,32 @@ class Library:
         """The name of a record, alike."""
         return self._part(self._parts[1], image, record)
 
+    def range(self, image: bytes, record: int) -> bytes:
+        """The range of a block, alike, and empty if the record is no block: first and last, 8 bytes or, of an IPv6 network, 32."""
+        return self._part(self._parts[2], image, record)
+
+    def prefixes(self, first: Address, last: Address, room: int = PREFIXES_ROOM) -> List[Network]:
+        """The prefixes that together hold exactly first to last, ascending; no shorter list does. RangeRefused has reason 6
+        if first is above last, and 9 with fewer bytes of room than the prefixes take, 5 or 17 each. Addresses of two families
+        or other types raise TypeError, and one with a scope (fe80::1%eth0) ValueError: a prefix has none."""
+        if {type(first), type(last)} not in ({IPv4Address}, {IPv6Address}):
+            raise TypeError("first and last are not two IPv4Address or two IPv6Address")
+        if any(getattr(address, "scope_id", None) is not None for address in (first, last)):
+            raise ValueError("an address with a scope")
+        return self._networks(first.packed + last.packed, room)
+
+    def record_prefixes(self, image: bytes, record: int) -> List[Network]:
+        """The prefixes of an IP network's range. Raises ValueError if the record is an AS block or no block,
+        if there is no such record, and if the image is defective."""
+        image = bytes(image)
+        span = self._span(self._parts[2], image, record)
+        if span.start == span.stop:
+            known = self.handle(image, record)
+            raise ValueError(f"record {record} is no block" if known else f"no record {record}, or a defective image")
+        if image[span.start - _TAG_BEFORE] == _AS_BLOCK:
+            raise ValueError(f"record {record} is an AS block")
+        return self._networks(image[span], PREFIXES_ROOM)
+
     @staticmethod
     def _call(function, arguments, places):
         """The list and the reply of a call with so many places."""
@@ -144,10 +194,26 @@ class Library:
         return Answer(Kind(reply[2]), Relation(reply[3]), numbers[:reply[4]])
 
     @staticmethod
-    def _part(function, image, record):
-        image, part = bytes(image), _Part()
+    def _span(function, image, record):
+        part = _Pair()
         function(image, len(image), _number(record), part)
-        return image[part[0]:part[0] + part[1]]
+        return slice(part[0], part[0] + part[1])
+
+    def _part(self, function, image, record):
+        image = bytes(image)
+        return image[self._span(function, image, record)]
+
+    def _networks(self, bounds, room):
+        """The prefixes of a range, as the bytes of its first and last."""
+        out, reply = (ctypes.c_char * room)(), _Pair()
+        self._prefixes(bounds, len(bounds), out, room, reply)
+        reason, count = reply
+        if reason != 0:
+            raise RangeRefused(reason, count)
+        width = len(bounds) // 2
+        network = IPv4Network if width == 4 else IPv6Network
+        entries = out[:count * (width + 1)]
+        return [network((entries[at:at + width], entries[at + width])) for at in range(0, len(entries), width + 1)]
 
 
 def _bytes(path):

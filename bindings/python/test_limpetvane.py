@@ -2,13 +2,16 @@
 import os
 import pathlib
 import pickle
+import random
 import unittest
+from ipaddress import IPv4Address, IPv4Interface, IPv6Address, summarize_address_range
 
-from limpetvane import PATHS, RECORDS, Answer, Kind, Library, Refused, Relation
+from limpetvane import PATHS, RECORDS, Answer, Kind, Library, RangeRefused, Refused, Relation
 
 LIBRARY = Library(os.environ["RDAP_SO"])
 VECTORS = pathlib.Path(__file__).resolve().parents[2] / "tests" / "vectors"
 S = (VECTORS / "s.image").read_bytes()
+CAMPUS = (VECTORS / "campus.image").read_bytes()
 # the image of S13.3: one AS block, 12 to 15, handle A, name B
 EXAMPLE = bytes.fromhex("01000101 120017 200008 0000000C 0000000F 21000141 22000142 23000101")
 
@@ -58,11 +61,10 @@ class Calls(unittest.TestCase):
                 self.assertEqual(line(lambda: LIBRARY.answer(path, image)), wanted, (file, path))
 
     def test_relations(self):
-        image = (VECTORS / "campus.image").read_bytes()
         for row in (VECTORS / "relations.tsv").read_text().split("\n")[:-1]:
             if not row.startswith("#"):
                 record, relation, places, wanted = row.split("\t")
-                call = lambda: LIBRARY.relation(image, int(record), Relation[relation.upper()], int(places))
+                call = lambda: LIBRARY.relation(CAMPUS, int(record), Relation[relation.upper()], int(places))
                 self.assertEqual(line(call), wanted, row)
 
     def test_example(self):
@@ -166,6 +168,105 @@ class Batches(unittest.TestCase):
                 LIBRARY.batch(paths, S)
         with self.assertRaises(ValueError):
             LIBRARY.batch(["/help"], S, -1)
+
+
+def rows(function):
+    """The calls of a function in the vectors of ranges: inputs, room, reply and output."""
+    folder = VECTORS / "changes" / "03"
+    column = lambda text: b"" if text == "-" else (folder / text[1:]).read_bytes() if text[0] == "@" else bytes.fromhex(text)
+    for row in (folder / "rows.tsv").read_text().split("\n")[:-1]:
+        name, first, second, room, reply, output, *_ = row.split("\t")
+        if name == function:
+            yield column(first), second, room, tuple(map(int, reply.split())), column(output)
+
+
+def bounds(text):
+    """The addresses of a range of 8 or 32 bytes."""
+    address = {8: IPv4Address, 32: IPv6Address}[len(text)]
+    return address(text[:len(text) // 2]), address(text[len(text) // 2:])
+
+
+def near_borders(rng, top):
+    """The ends of a prefix, each as it is or one address off."""
+    size = 2 ** rng.randrange(top.bit_length() + 1)
+    first = rng.randrange(0, top + 1, size)
+    return max(first + rng.randint(-1, 1), 0), min(first + size - 1 + rng.randint(-1, 1), top)
+
+
+def drawn(rng, top):
+    """First and last, first not above last: mostly few addresses, else at the borders of a prefix or anywhere."""
+    sort = rng.randrange(10)
+    if sort < 7:
+        first = rng.randint(0, top)
+        return first, min(first + rng.randrange(4 ** (sort + 1)), top)
+    return sorted(near_borders(rng, top) if sort < 9 else (rng.randint(0, top), rng.randint(0, top)))
+
+
+class Prefixes(unittest.TestCase):
+    def refused(self, first, last, **room):
+        with self.assertRaises(RangeRefused) as caught:
+            LIBRARY.prefixes(first, last, **room)
+        return caught.exception.reason, caught.exception.count
+
+    def test_vectors(self):
+        seen = set()
+        for text, _, room, (reason, count), output in rows("rdap_prefixes"):
+            if len(text) not in (8, 32):  # not two addresses of a family
+                continue
+            seen.add(reason)
+            if reason != 0:
+                self.assertEqual(self.refused(*bounds(text), room=int(room)), (reason, count), text)
+                continue
+            prefixes = LIBRARY.prefixes(*bounds(text), room=int(room))
+            self.assertEqual(len(prefixes), count)
+            self.assertEqual(b"".join(p.network_address.packed + bytes([p.prefixlen]) for p in prefixes), output, text)
+        self.assertEqual(seen, {0, 6, 9})
+
+    def test_ranges_of_records(self):
+        seen = 0
+        for image, record, _, (offset, length), _ in rows("rdap_range"):
+            self.assertEqual(LIBRARY.range(image, int(record)), image[offset:offset + length], record)
+            seen += length != 0
+        self.assertEqual(seen, 21)
+
+    def test_peer(self):
+        for address, top in ((IPv4Address, 2 ** 32 - 1), (IPv6Address, 2 ** 128 - 1)):
+            rng = random.Random(top)
+            for _ in range(20000):
+                first, last = map(address, drawn(rng, top))
+                self.assertEqual(LIBRARY.prefixes(first, last), list(summarize_address_range(first, last)), (first, last))
+
+    def test_most(self):
+        for address, top, most, size in ((IPv4Address, 2 ** 32 - 1, 62, 5), (IPv6Address, 2 ** 128 - 1, 254, 17)):
+            first, last = address(1), address(top - 1)
+            self.assertEqual(len(LIBRARY.prefixes(first, last)), most)
+            self.assertEqual(len(LIBRARY.prefixes(first, last, room=most * size)), most)
+            self.assertEqual(self.refused(first, last, room=most * size - 1), (9, most))
+            self.assertEqual(self.refused(last, first), (6, 0))
+
+    def test_records(self):
+        self.assertEqual([str(p) for p in LIBRARY.record_prefixes(S, 4)], ["192.0.2.128/25"])
+        for record in range(16):
+            wanted = list(summarize_address_range(*bounds(LIBRARY.range(CAMPUS, record))))
+            self.assertEqual(LIBRARY.record_prefixes(CAMPUS, record), wanted)
+        refusals = [(EXAMPLE, 0, "AS block"), (CAMPUS, 16, "AS block"), (CAMPUS, 20, "AS block"), (CAMPUS, 21, "no block"),
+                    (CAMPUS, 39, "no record"), (EXAMPLE, 1, "no record"), (S[:-1], 0, "defective"), (b"", 0, "defective")]
+        for image, record, message in refusals:
+            with self.assertRaisesRegex(ValueError, message):
+                LIBRARY.record_prefixes(image, record)
+
+    def test_wrong_arguments(self):
+        four, six = IPv4Address(1), IPv6Address(1)
+        for first, last in ((four, six), (six, four), ("0.0.0.1", four), (1, 1), (four, IPv4Interface("0.0.0.1/8")), (b"\0", None)):
+            with self.assertRaises(TypeError):
+                LIBRARY.prefixes(first, last)
+        for first, last in ((IPv6Address("::1%eth0"), six), (six, IPv6Address("::1%eth0"))):
+            with self.assertRaisesRegex(ValueError, "scope"):
+                LIBRARY.prefixes(first, last)
+        with self.assertRaises(ValueError):
+            LIBRARY.prefixes(four, four, -1)
+        refusal = RangeRefused(9, 62)
+        self.assertEqual((str(refusal), pickle.loads(pickle.dumps(refusal)).args), ("reason 9", (9, 62)))
 
 
 if __name__ == "__main__":
