@@ -2,12 +2,20 @@
 //!
 //! Calls are pure: no state, any input, no panic; a refusal is an error that carries its numbers.
 use std::fmt;
+use std::net::IpAddr;
+use std::ops::Range;
 
 /// An image has at most so many records, so a list of so many places is never too short.
 pub const RECORDS: usize = 4096;
 
 /// A batch has at most so many paths.
 pub const PATHS: usize = 64;
+
+/// The prefixes of a range take at most so many bytes: 254 of IPv6, of 17 bytes each.
+pub const PREFIXES_ROOM: usize = 4318;
+
+/// The tag of an AS block.
+const AS_BLOCK: u8 = 0x12;
 
 #[derive(Clone, Copy, Debug, PartialEq, Eq)]
 pub enum Relation {
@@ -57,7 +65,44 @@ impl fmt::Display for Refusal {
 
 impl std::error::Error for Refusal {}
 
+/// The addresses that begin with the first `length` bits of `address`.
+#[derive(Clone, Copy, Debug, PartialEq, Eq)]
+pub struct Prefix {
+    pub address: IpAddr,
+    pub length: u8,
+}
+
+impl fmt::Display for Prefix {
+    fn fmt(&self, f: &mut fmt::Formatter) -> fmt::Result {
+        write!(f, "{}/{}", self.address, self.length)
+    }
+}
+
+/// Why there are no prefixes: a range is refused with a reason and no status.
+#[derive(Clone, Copy, Debug, PartialEq, Eq)]
+pub enum NoPrefixes {
+    /// Reason 6: first is above last, or they are not of one family.
+    NoRange,
+    /// Reason 9: too little room for so many prefixes.
+    Room(usize),
+    /// The record is an AS block or no block, there is no such record, or the image is defective.
+    NoNetwork,
+}
+
+impl fmt::Display for NoPrefixes {
+    fn fmt(&self, f: &mut fmt::Formatter) -> fmt::Result {
+        match self {
+            NoPrefixes::NoRange => write!(f, "reason 6: no range of one family"),
+            NoPrefixes::Room(count) => write!(f, "reason 9: room for {count} prefixes needed"),
+            NoPrefixes::NoNetwork => write!(f, "no IP network"),
+        }
+    }
+}
+
+impl std::error::Error for NoPrefixes {}
+
 type Ask = unsafe extern "C" fn(*const u8, usize, u32, *mut u32, usize, *mut [u32; 7]);
+type Find = unsafe extern "C" fn(*const u8, usize, u32, *mut [u32; 2]);
 
 extern "C" {
     fn rdap_answer(path: *const u8, path_len: usize, image: *const u8, image_len: usize, list: *mut u32, list_len: usize, reply: *mut [u32; 7]);
@@ -68,6 +113,8 @@ extern "C" {
     fn rdap_bottom(image: *const u8, image_len: usize, record: u32, list: *mut u32, list_len: usize, reply: *mut [u32; 7]);
     fn rdap_handle(image: *const u8, image_len: usize, record: u32, part: *mut [u32; 2]);
     fn rdap_name(image: *const u8, image_len: usize, record: u32, part: *mut [u32; 2]);
+    fn rdap_range(image: *const u8, image_len: usize, record: u32, part: *mut [u32; 2]);
+    fn rdap_prefixes(range: *const u8, range_len: usize, out: *mut u8, out_len: usize, reply: *mut [u32; 2]);
 }
 
 fn kind(reply: &[u32; 7]) -> Option<Kind> {
@@ -183,20 +230,87 @@ pub fn relation(image: &[u8], record: u32, relation: Relation) -> Result<Answer,
     listed(|list| relation_into(image, record, relation, list))
 }
 
-fn part(image: &[u8], part: [u32; 2]) -> &[u8] {
-    &image[part[0] as usize..][..part[1] as usize]
+/// Where in the image a part of a record lies.
+fn span(find: Find, image: &[u8], record: u32) -> Range<usize> {
+    let mut part = [0; 2];
+    // As above; the part has two places.
+    unsafe { find(image.as_ptr(), image.len(), record, &mut part) };
+    let [start, length] = part.map(|number| number as usize);
+    start..start + length
 }
 
 /// The handle of a record, as a part of the image; empty if the image is defective or there is no such record.
 pub fn handle(image: &[u8], record: u32) -> &[u8] {
-    let mut span = [0; 2];
-    unsafe { rdap_handle(image.as_ptr(), image.len(), record, &mut span) };
-    part(image, span)
+    &image[span(rdap_handle, image, record)]
 }
 
 /// The name of a record, alike.
 pub fn name(image: &[u8], record: u32) -> &[u8] {
-    let mut span = [0; 2];
-    unsafe { rdap_name(image.as_ptr(), image.len(), record, &mut span) };
-    part(image, span)
+    &image[span(rdap_name, image, record)]
+}
+
+/// The range of a block, alike, and empty if the record is no block: first and last, 8 bytes or, of an IPv6 network, 32.
+/// An AS block has 8 bytes too, which `prefixes_into` would read as IPv4; `record_prefixes` refuses it.
+pub fn range(image: &[u8], record: u32) -> &[u8] {
+    &image[span(rdap_range, image, record)]
+}
+
+/// Writes the prefixes that together hold exactly the addresses of a range, 8 or 32 bytes, ascending; no shorter list does.
+/// An entry is the address in 4 or 16 bytes, then its length in one; the rest of the bytes is unchanged, and all of them on a refusal.
+/// Gives the number of prefixes.
+pub fn prefixes_into(range: &[u8], out: &mut [u8]) -> Result<usize, NoPrefixes> {
+    let mut reply = [0; 2];
+    // As above; the reply has two places.
+    unsafe { rdap_prefixes(range.as_ptr(), range.len(), out.as_mut_ptr(), out.len(), &mut reply) };
+    match reply.map(|number| number as usize) {
+        [0, count] => Ok(count),
+        [9, count] => Err(NoPrefixes::Room(count)),
+        _ => Err(NoPrefixes::NoRange),
+    }
+}
+
+/// The first entries of a buffer, each an address of so many bytes and its length.
+fn entries<const WIDTH: usize>(out: &[u8], count: usize) -> Vec<Prefix>
+where
+    IpAddr: From<[u8; WIDTH]>,
+{
+    let prefix = |entry: &[u8]| {
+        let mut address = [0; WIDTH];
+        address.copy_from_slice(&entry[..WIDTH]);
+        Prefix { address: IpAddr::from(address), length: entry[WIDTH] }
+    };
+    out.chunks(WIDTH + 1).take(count).map(prefix).collect()
+}
+
+fn prefixes_of(range: &[u8]) -> Result<Vec<Prefix>, NoPrefixes> {
+    let mut out = [0; PREFIXES_ROOM];
+    let count = prefixes_into(range, &mut out)?;
+    Ok(match range.len() {
+        8 => entries::<4>(&out, count),
+        _ => entries::<16>(&out, count),
+    })
+}
+
+fn octets(address: IpAddr) -> Vec<u8> {
+    match address {
+        IpAddr::V4(address) => address.octets().to_vec(),
+        IpAddr::V6(address) => address.octets().to_vec(),
+    }
+}
+
+/// The prefixes that together hold exactly first to last, ascending; no shorter list does.
+/// First above last and two families are refused.
+pub fn prefixes(first: IpAddr, last: IpAddr) -> Result<Vec<Prefix>, NoPrefixes> {
+    // Two families make 20 bytes, which are no range.
+    prefixes_of(&[octets(first), octets(last)].concat())
+}
+
+/// The prefixes of an IP network; an AS block and what is no block are refused.
+pub fn record_prefixes(image: &[u8], record: u32) -> Result<Vec<Prefix>, NoPrefixes> {
+    let range = span(rdap_range, image, record);
+    // The tag of a block stands six bytes before its range.
+    if range.is_empty() || image[range.start - 6] == AS_BLOCK {
+        return Err(NoPrefixes::NoNetwork);
+    }
+    prefixes_of(&image[range])
 }

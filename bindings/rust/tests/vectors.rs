@@ -1,6 +1,7 @@
 //! The vectors of tests/vectors and the image of S13.3, through the safe functions.
 use limpetvane::*;
 use std::fs;
+use std::net::IpAddr;
 use std::path::{Path, PathBuf};
 
 const EXAMPLE: [u8; 30] = [
@@ -176,4 +177,81 @@ fn few_places() {
     assert_eq!(answered(&[b'\n'; 64], 10).0.unwrap_err().reason, 10);
     let defective = batch_into(b"/help", &EXAMPLE[..29], &mut []).unwrap_err();
     assert_eq!((defective.reason, defective.defect, defective.place), (2, 3, 0));
+}
+
+/// The bytes that a column of the rows stands for.
+fn column(text: &str) -> Vec<u8> {
+    match text.strip_prefix('@') {
+        Some(file) => fs::read(folder().join("changes/03").join(file)).unwrap(),
+        None if text == "-" => vec![],
+        None => (0..text.len()).step_by(2).map(|at| u8::from_str_radix(&text[at..at + 2], 16).unwrap()).collect(),
+    }
+}
+
+/// Hands on the calls of a function on ranges: its columns and the two numbers of its reply. Gives how many there are.
+fn each_row(function: &str, check: impl Fn(&[&str], [usize; 2])) -> usize {
+    let rows = fs::read_to_string(folder().join("changes/03/rows.tsv")).unwrap();
+    let rows: Vec<Vec<&str>> = rows.lines().map(|row| row.split('\t').collect()).filter(|row: &Vec<&str>| row[0] == function).collect();
+    for row in &rows {
+        let (first, second) = row[4].split_once(' ').unwrap();
+        check(row, [first, second].map(|number| number.parse().unwrap()));
+    }
+    rows.len()
+}
+
+fn ip(text: &str) -> IpAddr {
+    text.parse().unwrap()
+}
+
+/// Prefixes as text, or why there are none.
+fn texts(prefixes: Result<Vec<Prefix>, NoPrefixes>) -> Result<Vec<String>, NoPrefixes> {
+    prefixes.map(|prefixes| prefixes.iter().map(Prefix::to_string).collect())
+}
+
+#[test]
+fn ranges() {
+    let seen = each_row("rdap_prefixes", |row, [reason, count]| {
+        let mut out = vec![7; row[3].parse().unwrap()];
+        let mut wanted = column(row[5]);
+        wanted.extend(&out[wanted.len()..]);
+        let result = match reason {
+            0 => Ok(count),
+            9 => Err(NoPrefixes::Room(count)),
+            _ => Err(NoPrefixes::NoRange),
+        };
+        assert_eq!(prefixes_into(&column(row[1]), &mut out), result, "{}", row[8]);
+        assert_eq!(out, wanted, "{}", row[8]);
+    });
+    assert_eq!(seen, 512);
+}
+
+#[test]
+fn ranges_of_records() {
+    let seen = each_row("rdap_range", |row, [offset, length]| {
+        let (image, record) = (column(row[1]), row[2].parse().unwrap());
+        assert_eq!(range(&image, record), &image[offset..][..length]);
+        let network = length != 0 && image[offset - 6] != 0x12;
+        assert_eq!(record_prefixes(&image, record).err(), (!network).then_some(NoPrefixes::NoNetwork));
+    });
+    assert_eq!(seen, 44);
+    assert_eq!(texts(record_prefixes(&registry_s(), 4)), Ok(vec!["192.0.2.128/25".to_string()]));
+    assert_eq!(record_prefixes(&EXAMPLE, 0), Err(NoPrefixes::NoNetwork));
+    assert_eq!(range(&EXAMPLE, 0), [0, 0, 0, 12, 0, 0, 0, 15]);
+}
+
+#[test]
+fn addresses() {
+    let wanted = |list: &[&str]| Ok(list.iter().map(|text| text.to_string()).collect());
+    let example = prefixes(ip("192.0.2.1"), ip("192.0.2.6"));
+    assert_eq!(texts(example), wanted(&["192.0.2.1/32", "192.0.2.2/31", "192.0.2.4/31", "192.0.2.6/32"]));
+    assert_eq!(texts(prefixes(ip("2001:db8::"), ip("2001:db8::2"))), wanted(&["2001:db8::/127", "2001:db8::2/128"]));
+    assert_eq!(texts(prefixes(ip("0.0.0.0"), ip("255.255.255.255"))), wanted(&["0.0.0.0/0"]));
+    let last = ip("ffff:ffff:ffff:ffff:ffff:ffff:ffff:fffe");
+    assert_eq!(prefixes(ip("::1"), last).unwrap().len(), 254);
+    assert_eq!(prefixes(ip("0.0.0.1"), ip("255.255.255.254")).unwrap().len(), 62);
+    for (first, last) in [("::2", "::1"), ("1.0.0.0", "0.0.0.1"), ("0.0.0.1", "::1"), ("::1", "0.0.0.1")] {
+        assert_eq!(prefixes(ip(first), ip(last)), Err(NoPrefixes::NoRange));
+    }
+    let messages = [NoPrefixes::NoRange, NoPrefixes::Room(62), NoPrefixes::NoNetwork].map(|refusal| refusal.to_string());
+    assert_eq!(messages, ["reason 6: no range of one family", "reason 9: room for 62 prefixes needed", "no IP network"]);
 }
