@@ -4,11 +4,12 @@ use mathlib.Core.Path.{_≡_, refl, sym, ap, _∙_}
 use mathlib.Core.List.{List, [], _∷_, _++_, append-assoc, append-nil}
 use native.Mathlib.Omega.{arith}
 use native.Mathlib.Nat.{pow-suc}
-use lib.ListN.{length, length-append}
+use lib.ListN.{length, take, getD, length-append}
 use Rattle.address.specs.Number.{value, valueFrom}
 use Rattle.address.proofs.Digits.{append-from}
 use Rattle.prefixes.specs.Call.{bigEndian}
 use Rattle.prefixes.specs.Answers.{BytesReadBack}
+use Rattle.prefixes.specs.Entries.{bytesOf}
 
 pub length-bytes : (n v : ℕ) → length (bigEndian n v) ≡ n
 unfolding bigEndian
@@ -35,10 +36,20 @@ bytes-joined n (suc m) h l b =
 pub low-word : (h l : ℕ) → h * 18446744073709551616 + l < 4294967296 → h * 18446744073709551616 + l ≡ l
 low-word h l b = omega (arith, b)
 
--- of a number of two words, and of a word in two halves
-pub two-words : (h l : ℕ) → l < 18446744073709551616 → bigEndian 16 (h * 18446744073709551616 + l) ≡ bigEndian 8 h ++ bigEndian 8 l
-two-words h l b = bytes-joined 8 8 h l b
+-- of a number of two words
+pub two-words : (h l : ℕ) → l < 18446744073709551616 → bytesOf (h ∷ l ∷ []) ≡ bigEndian 16 (h * 18446744073709551616 + l)
+unfolding bytesOf
+two-words h l b = rw (append-nil (bigEndian 8 l)) (sym (bytes-joined 8 8 h l b))
 
+-- one word more
+pub word-more : (words : List ℕ) (i : ℕ) → i < length words → bytesOf (take (suc i) words) ≡ bytesOf (take i words) ++ bigEndian 8 (getD words i 0)
+unfolding bytesOf
+word-more [] i h = absurd (omega (arith, h))
+word-more (w ∷ words) zero h = append-nil (bigEndian 8 w)
+word-more (w ∷ words) (suc i) h =
+    rw (word-more words i (omega arith)) (sym (append-assoc (bigEndian 8 w) (bytesOf (take i words)) (bigEndian 8 (getD words i 0))))
+
+-- of a word in two halves
 pub two-halves : (v : ℕ) → bigEndian 8 v ≡ bigEndian 4 (v / 4294967296) ++ bigEndian 4 (v % 4294967296)
 two-halves v =
     let e : v ≡ v / 4294967296 * 4294967296 + v % 4294967296 = omega arith in

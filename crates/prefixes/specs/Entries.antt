@@ -1,7 +1,7 @@
 -- Serves contracts and proofs. The entries of prefixes, as the code counts and writes them.
 use Prim.Native.Nat.{ℕ, _*_, _^_, _≤_, _<_}
 use mathlib.Core.Bool.{cond}
-use mathlib.Core.List.{List}
+use mathlib.Core.List.{List, [], _∷_, _++_}
 use lib.Dec.{ltb}
 use lib.ListN.{length}
 use Rattle.address.specs.Positions.{Wide}
@@ -9,7 +9,7 @@ use Rattle.address.specs.Ranges.{Range}
 use Rattle.address.specs.Words.{numberOf}
 use Rattle.address.specs.declared.Words.{Words}
 use Rattle.cidr.specs.Prefixes.{Prefix, from-to, prefixesOf}
-use Rattle.prefixes.specs.Call.{entriesOf}
+use Rattle.prefixes.specs.Call.{bigEndian, entriesOf}
 use Rattle.prefixes.specs.declared.Fit.{Fit}
 use Rattle.prefixes.specs.declared.Fit.the-variants.{Enough, Short}
 
@@ -25,6 +25,14 @@ pub record Ordered (width : ℕ) (first last : Words) : Type 0 where
   pub wide : Wide width
   pub forward : numberOf first ≤ numberOf last
   pub below : numberOf last < 2 ^ (8 * width)
+
+abbrev pub wordsOf : Words → List ℕ
+wordsOf a = a .high ∷ a .low ∷ []
+
+-- words, one after another, in eight bytes each
+unfoldable pub bytesOf : List ℕ → List ℕ
+bytesOf [] = []
+bytesOf (w ∷ words) = bigEndian 8 w ++ bytesOf words
 
 -- a prefix whose address has so many bytes
 pub record EntryFits (width first free : ℕ) : Type 0 where

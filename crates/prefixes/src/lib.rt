@@ -4,14 +4,14 @@ ghost use mathlib.Core.Path.{_≡_};
 ghost use mathlib.Core.List.{_++_};
 ghost use Prim.Native.Nat.{suc, _+_, _-_, _*_, _^_, _%_, _≤_, _<_};
 ghost use lib.Count.{trailingZeros};
-ghost use lib.ListN.{length, drop};
+ghost use lib.ListN.{length, getD, take, drop};
 ghost use Rattle.address.specs.Positions.{Wide};
 ghost use Rattle.address.specs.Words.{numberOf};
 ghost use Rattle.listing.specs.Writing.{Written};
 ghost use Rattle.cidr.specs.Prefixes.{prefix};
 ghost use Rattle.cidr.specs.First.{Largest, Top};
 ghost use Rattle.prefixes.specs.Call.{bigEndian, entryOf, entriesOf, ipRange, ipRangeOf, prefixedOf, bufferAfter};
-ghost use Rattle.prefixes.specs.Entries.{between, walked, Ordered, EntryFits, fitOf};
+ghost use Rattle.prefixes.specs.Entries.{between, walked, Ordered, wordsOf, bytesOf, EntryFits, fitOf};
 use address::Words;
 use address::next;
 use address::words_at;
@@ -183,19 +183,36 @@ fn put8(v: u64, out: &mut [u8])
     put4(v % 4294967296, &mut out[4..]);
 }
 
+// The high word, or the low one.
+fn word(a: Words, i: usize) -> u64
+    requires { ⌜ i < 2 ⌝ }
+    ensures { λ r. ⌜ r ≡ getD (wordsOf a) i 0 ⌝ }
+{
+    if i == 0 { a.high } else { a.low }
+}
+
+// So many words. In a loop, since the compiler makes one store of eight bytes that are written in a row, but none of sixteen.
+fn put_words(a: Words, n: usize, out: &mut [u8])
+    requires { ⌜ (n ≤ 2) × (8 * n ≤ length (now out)) ⌝ }
+    ensures { λ _. ⌜ Written (bytesOf (take n (wordsOf a))) (now (out .entry)) (now (out .exit)) (8 * n) ⌝ }
+{
+    let mut i: usize = 0;
+    while i < n {
+        put8(word(a, i), &mut out[8 * i..]);
+        i += 1;
+    }
+}
+
 // The address, in 4 or 16 bytes.
 fn put_address(a: Words, width: usize, out: &mut [u8])
     requires { ⌜ Wide width × (width ≤ length (now out)) × (numberOf a < 2 ^ (8 * width)) ⌝ }
     ensures { λ _. ⌜ Written (bigEndian width (numberOf a)) (now (out .entry)) (now (out .exit)) width ⌝ }
 {
-    let high = a.high;
-    let low = a.low;
     if width == 4 {
-        put4(low, out);
+        put4(a.low, out);
         return;
     }
-    put8(high, out);
-    put8(low, &mut out[8..]);
+    put_words(a, width / 8, out);
 }
 
 // The entry of a prefix: its first address, and its length.

@@ -69,8 +69,7 @@ part-put-entry-end c = search needs
 put-entry-requires : tie.Need-put-entry-requires Inv-loop μ-loop
 put-entry-requires c κs =
     let turn = c .before in
-    let o = start turn .pre .0 in
-    (
+    let o = start turn .pre .0 in (
       entry-fits (start turn .args .width) (o .wide) (turn .before .loop .inv .0) (o .below) (turn .prefix-at .ensures .0),
       omega (arith, inside turn, rest-length (turn .before .loop .out) (turn .before .loop .at)),
     )
