@@ -9,8 +9,8 @@ use lib.Count.{trailingZeros}
 use lib.Pow.{pow-add, pow-mono, pow-pos}
 use Rattle.address.specs.Ranges.{Range}
 use Rattle.cidr.specs.Prefixes.{prefix, from-to, prefixesOf}
-use Rattle.cidr.specs.First.{Largest, Top}
-use Rattle.cidr.proofs.Multiples.{sum, itself, finer, near, of-remainder, to-remainder}
+use Rattle.cidr.specs.First.{Largest, Capped, Top}
+use Rattle.cidr.proofs.Multiples.{Multiple, sum, itself, finer, near, of-remainder, to-remainder}
 use Rattle.cidr.proofs.Zeros.{Zeros, zeros}
 use Rattle.cidr.proofs.Greedy.{first-prefix}
 
@@ -46,25 +46,36 @@ module _ (w s e z : ℕ) (low : z ≡ trailingZeros w s) (below : e < 2 ^ w) whe
       more (yes d) g = d
       more (no d) g = absurd (omega (arith, g, pow-mono {i = w} {j = z} (omega arith), pow-pos w))
 
-  -- it ends after the range: what remains decides
-  module _ {d cap : ℕ} (sum : s + d ≡ e) (room : Top (suc d) cap) (h : suc e < s + 2 ^ z) where
-    pub capped : cap ≤ z
-    capped = go (decLe cap z)
-      where
-        go : Dec (cap ≤ z) → cap ≤ z
-        go (yes l) = l
-        go (no l) = absurd (omega (arith, room .from, pow-mono {i = z} {j = cap} (omega arith)))
-
-    pub by-room : Largest (from-to s e) cap
-    by-room = record {
-      zeros = to-remainder cap (finer cap z capped (start .multiple));
-      inside = omega (arith, room .from);
-      next = λ m g. omega (arith, g, room .to);
-    }
+  -- it ends with the range or after it
+  abbrev pub by-end : suc e ≤ s + 2 ^ z → Capped (from-to s e)
+  by-end h = record { bits = z; zeros = aligned; ends = h }
 
   -- it ends at the latest with the last address of all
   pub ends : s ≤ e → s + 2 ^ z ≤ 2 ^ w
   ends h = near (2 ^ z) (sum (start .multiple) (itself (2 ^ z))) (finer z w (start .short) (itself (2 ^ w))) (omega arith)
+
+-- what remains decides
+module _ {s d e cap : ℕ} (c : Capped (from-to s e)) (sum-is : s + d ≡ e) (room : Top (suc d) cap) where
+  within : cap ≤ c .bits
+  within = go (decLe cap (c .bits))
+    where
+      go : Dec (cap ≤ c .bits) → cap ≤ c .bits
+      go (yes l) = l
+      go (no l) = absurd (omega (arith, room .from, c .ends, pow-mono {i = suc (c .bits)} {j = cap} (omega arith), pow-pos (c .bits)))
+
+  multiple : Multiple (2 ^ cap) s
+  multiple = finer cap (c .bits) within (of-remainder s (c .bits) (c .zeros))
+
+  pub by-room : Largest (from-to s e) cap
+  by-room = record {
+    zeros = to-remainder cap multiple;
+    inside = omega (arith, room .from);
+    next = λ m g. omega (arith, g, room .to);
+  }
+
+  -- and after that prefix too
+  pub still : {n : ℕ} → n ≡ s + 2 ^ cap → Capped (from-to n e)
+  still h = record { bits = cap; zeros = rw h (to-remainder cap (sum multiple (itself (2 ^ cap)))); ends = omega (arith, h, room .to) }
 
 -- The first prefix of a range, and the rest: the trailing zeros of its start, capped by the highest bit of how many addresses it has.
 pub zeros-capped : (w : ℕ) (r : Range) (cap : ℕ) → r .first ≤ r .last → r .last < 2 ^ w → Top (suc (r .last - r .first)) cap
@@ -78,6 +89,6 @@ zeros-capped w r cap h b p = first-prefix w r (min z cap) b (go (decLe (r .first
     go (yes d) (yes l) = let e : min z cap ≡ z = omega arith in rw e (by-zeros w (r .first) (r .last) z refl b d)
     go (yes d) (no l) = absurd (omega (arith, p .to, pow-mono {i = suc cap} {j = z} (omega arith)))
     go (no d) l =
-        let c : cap ≤ z = capped w (r .first) (r .last) z refl b (omega arith) p (omega arith) in
-        let e : min z cap ≡ cap = omega arith in
-        rw e (by-room w (r .first) (r .last) z refl b (omega arith) p (omega arith))
+        let c = by-end w (r .first) (r .last) z refl b (omega arith) in
+        let e : min z cap ≡ cap = omega (arith, within c (omega arith) p) in
+        rw e (by-room c (omega arith) p)

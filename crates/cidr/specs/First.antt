@@ -9,6 +9,12 @@ pub record Largest (r : Range) (free : ℕ) : Type 0 where
   pub inside : r .first + 2 ^ free ≤ suc (r .last)
   pub next : r .first % 2 ^ suc free ≡ 0 → r .first + 2 ^ suc free ≤ suc (r .last) → ⊥
 
+-- The range ends with a block that the zero bits of its first address allow, or before that: what remains decides.
+pub record Capped (r : Range) : Type 0 where
+  pub bits : ℕ
+  pub zeros : r .first % 2 ^ bits ≡ 0
+  pub ends : suc (r .last) ≤ r .first + 2 ^ bits
+
 -- The highest bit of n is at place t.
 pub record Top (n t : ℕ) : Type 0 where
   pub from : 2 ^ t ≤ n

@@ -28,7 +28,7 @@ module _ {width : ℕ} {first last : Words} (o : Ordered width first last) where
       let e : 128 - 8 * width + 8 * width ≡ 128 = omega (arith, at-most-sixteen (o .wide)) in
       sym (wider (between first last) (8 * width) (128 - 8 * width) (o .below)) ∙ rw e
 
-  few : length (walked first last) ≤ 16 * width - 2
+  pub few : length (walked first last) ≤ 16 * width - 2
   few = omega (arith, rw at-width at (shortest (8 * width) (between first last) (o .below) .few (omega (arith, o .wide .0))))
 
   -- counted

@@ -17,7 +17,7 @@ wide h l = digits-lt h l
 pub ends-by : {r e n : ℕ} → suc r ≡ n → r ≤ e → n ≤ suc e
 ends-by h l = omega arith
 
-pub ends-after : {r e n : ℕ} → suc r ≡ n → e < r → suc e < n
+pub ends-after : {r e n : ℕ} → suc r ≡ n → e ≤ r → suc e ≤ n
 ends-after h l = omega arith
 
 pub ends-inside : (w : ℕ) {s e t : ℕ} → e < 2 ^ w → Largest (from-to s e) t → s + 2 ^ t ≤ 2 ^ w

@@ -1,6 +1,6 @@
 -- Entries written one after another to the front of a buffer: those that are written, and those of the rest of the range, are all.
 use Prim.Native.Nat.{ℕ, suc, _+_, _-_, _*_, _^_, _≤_, _<_}
-use mathlib.Core.Path.{_≡_, refl, sym, ap, _∙_}
+use mathlib.Core.Path.{_≡_, refl, sym, ap, subst, _∙_}
 use mathlib.Core.List.{List, [], _∷_, _++_, append-assoc, append-nil}
 use native.Mathlib.Omega.{arith}
 use native.Mathlib.Decide.{decLe, ℕ-discrete}
@@ -13,7 +13,7 @@ use Rattle.listing.proofs.Writing.{written-nothing, written-length, written-bot
 use Rattle.cidr.specs.Prefixes.{Prefix, from-to}
 use Rattle.cidr.specs.First.{Largest}
 use Rattle.prefixes.specs.Call.{bigEndian, entryOf, entriesOf}
-use Rattle.prefixes.specs.Entries.{EntryFits}
+use Rattle.prefixes.specs.Entries.{EntryFits, Entered, Listed}
 use Rattle.prefixes.proofs.Bytes.{length-bytes}
 
 -- what holds of 4 and of 16 bytes
@@ -34,20 +34,17 @@ length-entries width [] = omega arith
 length-entries width (p ∷ ps) =
     length-append (entryOf width p) (entriesOf width ps) ∙ omega (arith, length-entry width p, length-entries width ps)
 
--- one entry more
-entries-snoc : (width : ℕ) (ps : List Prefix) (p : Prefix) → entriesOf width (ps ++ (p ∷ [])) ≡ entriesOf width ps ++ entryOf width p
+-- one after another
+pub entries-append : (width : ℕ) (ps qs : List Prefix) → entriesOf width (ps ++ qs) ≡ entriesOf width ps ++ entriesOf width qs
 unfolding entriesOf
-entries-snoc width [] p = append-nil (entryOf width p)
-entries-snoc width (q ∷ ps) p = rw (entries-snoc width ps p) (sym (append-assoc (entryOf width q) (entriesOf width ps) (entryOf width p)))
+entries-append width [] qs = refl
+entries-append width (p ∷ ps) qs = rw (entries-append width ps qs) (sym (append-assoc (entryOf width p) (entriesOf width ps) (entriesOf width qs)))
 
--- `n` counts the entry to come too
-pub record Entered (width : ℕ) (all rest : List Prefix) (before after : List ℕ) (at n : ℕ) : Type 0 where
-  pub done : List Prefix
-  pub whole : all ≡ done ++ rest
-  pub front : Written (entriesOf width done) before after at
-  pub counted : n ≡ suc (length done)
+one-entry : (width : ℕ) (p : Prefix) → entriesOf width (p ∷ []) ≡ entryOf width p
+unfolding entriesOf
+one-entry width p = append-nil (entryOf width p)
 
-pub nothing-entered : (width : ℕ) (ps : List Prefix) (before : List ℕ) → Entered width ps ps before before 0 1
+pub nothing-entered : (width : ℕ) (ps : List Prefix) (before : List ℕ) → Entered width ps ps before before 0 0
 unfolding entriesOf
 nothing-entered width ps before = record { done = []; whole = refl; front = written-nothing before; counted = refl }
 
@@ -61,6 +58,10 @@ module _ {width at n : ℕ} {all rest : List Prefix} {before after : List ℕ} (
   pub kept-length : length after ≡ length before
   kept-length = written-length (g .front) (omega (arith, size, place))
 
+  -- room for the others
+  pub rest-inside : at + length (entriesOf width rest) ≤ length after
+  rest-inside = omega (arith, size, place, length-entries width rest, kept-length)
+
   -- the next entry
   module _ {p : Prefix} {left : List Prefix} (known : rest ≡ p ∷ left) where
     more : length rest ≡ suc (length left)
@@ -69,7 +70,7 @@ module _ {width at n : ℕ} {all rest : List Prefix} {before after : List ℕ} (
     pub entry-inside : at + (width + 1) ≤ length after
     entry-inside = omega (arith, rw more at size, place, kept-length)
 
-    pub few-entered : n ≤ length all
+    pub few-entered : n < length all
     few-entered = omega (arith, g .counted, ap length (g .whole) ∙ length-append (g .done) rest, more)
 
     pub entered : {c : List ℕ} → Written (entryOf width p) (take (length after - at) (drop at after)) c (width + 1)
@@ -77,15 +78,25 @@ module _ {width at n : ℕ} {all rest : List Prefix} {before after : List ℕ} (
     entered w = record {
       done = g .done ++ (p ∷ []);
       whole = g .whole ∙ rw known (sym (append-assoc (g .done) (p ∷ []) left));
-      front = rw (entries-snoc width (g .done) p) (written-both (g .front) w);
+      front = rw (entries-append width (g .done) (p ∷ []), one-entry width p) (written-both (g .front) w);
       counted = omega (arith, g .counted, length-append (g .done) (p ∷ []));
     }
 
-pub all-entered : {width at n : ℕ} {all : List Prefix} {before after : List ℕ} → Entered width all [] before after at (n + 1)
-    → (n ≡ length all) × (after ≡ entriesOf width all ++ drop (length (entriesOf width all)) before)
-all-entered {width} {before = before} g =
-    let e = g .whole ∙ append-nil (g .done) in
-    rw e (omega (arith, g .counted), g .front .is ∙ ap (λ (k : ℕ). entriesOf width (g .done) ++ drop k before) (g .front .size))
+-- none is left
+pub all-entered : {width at n : ℕ} {all : List Prefix} {before after : List ℕ} → Entered width all [] before after at n → Listed width all before after n
+all-entered {width} {at} {n} {all} {before} {after} g =
+    let e : all ≡ g .done = g .whole ∙ append-nil (g .done) in
+    rw e (record { counted = g .counted; front = subst (λ (k : ℕ). Written (entriesOf width (g .done)) before after k) (g .front .size) (g .front) })
+
+-- the others into the rest of the buffer
+pub both-listed : {width at n m : ℕ} {all rest : List Prefix} {before b c : List ℕ} → Entered width all rest before b at n
+    → Listed width rest (take (length b - at) (drop at b)) c m → Listed width all before (putMid at (length b - at) b c) (n + m)
+both-listed {width} {at} {rest = rest} {before = before} {b = b} {c = c} g l =
+    let w = written-both (g .front) (l .front) in
+    rw (g .whole) (record {
+      counted = omega (arith, g .counted, l .counted, length-append (g .done) rest);
+      front = rw (entries-append width (g .done) rest) (subst (λ (k : ℕ). Written (entriesOf width (g .done) ++ entriesOf width rest) before (putMid at (length b - at) b c) k) (w .size) w);
+    })
 
 pub at-most-sixteen : {width : ℕ} → Wide width → width ≤ 16
 at-most-sixteen w = by-width w (λ (k : ℕ). k ≤ 16) (omega arith) (omega arith)

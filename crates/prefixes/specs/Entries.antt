@@ -1,6 +1,7 @@
 -- Serves contracts and proofs. The entries of prefixes, as the code counts and writes them.
 use Prim.Native.Nat.{ℕ, _*_, _^_, _≤_, _<_}
 use mathlib.Core.Bool.{cond}
+use mathlib.Core.Path.{_≡_}
 use mathlib.Core.List.{List, [], _∷_, _++_}
 use lib.Dec.{ltb}
 use lib.ListN.{length}
@@ -8,8 +9,11 @@ use Rattle.address.specs.Positions.{Wide}
 use Rattle.address.specs.Ranges.{Range}
 use Rattle.address.specs.Words.{numberOf}
 use Rattle.address.specs.declared.Words.{Words}
+use Rattle.listing.specs.Writing.{Written}
+use Rattle.cidr.specs.First.{Capped}
 use Rattle.cidr.specs.Prefixes.{Prefix, from-to, prefixesOf}
 use Rattle.prefixes.specs.Call.{bigEndian, entriesOf}
+use Rattle.prefixes.specs.declared.Stop.{Stop}
 use Rattle.prefixes.specs.declared.Fit.{Fit}
 use Rattle.prefixes.specs.declared.Fit.the-variants.{Enough, Short}
 
@@ -39,6 +43,24 @@ pub record EntryFits (width first free : ℕ) : Type 0 where
   pub wide : Wide width
   pub address : first < 2 ^ (8 * width)
   pub short : free ≤ 8 * width
+
+-- all entries are written, and so many they are
+pub record Listed (width : ℕ) (ps : List Prefix) (before after : List ℕ) (n : ℕ) : Type 0 where
+  pub counted : n ≡ length ps
+  pub front : Written (entriesOf width ps) before after (length (entriesOf width ps))
+
+-- the first entries are written, n of them in at bytes, and the others are left
+pub record Entered (width : ℕ) (all rest : List Prefix) (before after : List ℕ) (at n : ℕ) : Type 0 where
+  pub done : List Prefix
+  pub whole : all ≡ done ++ rest
+  pub front : Written (entriesOf width done) before after at
+  pub counted : n ≡ length done
+
+-- the entries left are those for which what remains decides
+pub record Climbed (width : ℕ) (first last : Words) (before after : List ℕ) (r : Stop) : Type 0 where
+  pub entered : Entered width (walked first last) (walked (r .start) last) before after (r .at) (r .n)
+  pub forward : numberOf (r .start) ≤ numberOf last
+  pub capped : Capped (between (r .start) last)
 
 -- whether so much room is enough for the entries; if it is not, how many there are
 abbrev pub fitOf : ℕ → ℕ → List Prefix → Fit

@@ -9,9 +9,9 @@ ghost use Rattle.address.specs.Positions.{Wide};
 ghost use Rattle.address.specs.Words.{numberOf};
 ghost use Rattle.listing.specs.Writing.{Written};
 ghost use Rattle.cidr.specs.Prefixes.{prefix};
-ghost use Rattle.cidr.specs.First.{Largest, Top};
+ghost use Rattle.cidr.specs.First.{Largest, Capped, Top};
 ghost use Rattle.prefixes.specs.Call.{bigEndian, entryOf, entriesOf, ipRange, ipRangeOf, prefixedOf, bufferAfter};
-ghost use Rattle.prefixes.specs.Entries.{between, walked, Ordered, wordsOf, bytesOf, EntryFits, fitOf};
+ghost use Rattle.prefixes.specs.Entries.{between, walked, Ordered, wordsOf, bytesOf, EntryFits, Listed, Climbed, fitOf};
 use address::Words;
 use address::next;
 use address::words_at;
@@ -225,25 +225,63 @@ fn put_entry(first: Words, free: u32, width: usize, out: &mut [u8])
     out[width] = (bits - free) as u8;
 }
 
-// Writes the entries to the front of the buffer, which has room for them. Gives how many there are.
-fn write(first: Words, last: Words, width: usize, out: &mut [u8]) -> u32
+// Where the climbing ended: the next address, where its entry goes, and how many entries are written.
+struct Stop {
+    start: Words,
+    at: usize,
+    n: u32,
+}
+
+// Writes the entries of the prefixes that end before the range does if the trailing zeros decide. Gives where the others start.
+fn climb(first: Words, last: Words, width: usize, out: &mut [u8]) -> Stop
     requires { ⌜ Ordered width first last × (length (entriesOf width (walked first last)) ≤ length (now out)) ⌝ }
-    ensures { λ r. ⌜ (r ≡ length (walked first last)) × (now (out .exit) ≡ entriesOf width (walked first last) ++ drop (length (entriesOf width (walked first last))) (now (out .entry))) ⌝ }
+    ensures { λ r. ⌜ Climbed width first last (now (out .entry)) (now (out .exit)) r ⌝ }
 {
     let mut start = first;
     let mut at: usize = 0;
-    let mut n: u32 = 1;
+    let mut n: u32 = 0;
     loop {
-        let p = prefix_at(start, last);
-        put_entry(start, p.free, width, &mut out[at..]);
-        let end = p.end;
+        let zeros = trailing_zeros(start);
+        let end = last_of(start, zeros);
+        if words_at_most(last, end) {
+            return Stop { start, at, n };
+        }
+        put_entry(start, zeros, width, &mut out[at..]);
+        start = next(end);
+        at += width + 1;
+        n += 1;
+    }
+}
+
+// Writes the entries of the others, for which what remains decides. Gives how many there are.
+fn descend(first: Words, last: Words, width: usize, out: &mut [u8]) -> u32
+    requires { ⌜ Ordered width first last × Capped (between first last) × (length (entriesOf width (walked first last)) ≤ length (now out)) ⌝ }
+    ensures { λ r. ⌜ Listed width (walked first last) (now (out .entry)) (now (out .exit)) r ⌝ }
+{
+    let mut start = first;
+    let mut at: usize = 0;
+    let mut n: u32 = 0;
+    loop {
+        let free = cap(remaining(start, last));
+        put_entry(start, free, width, &mut out[at..]);
+        n += 1;
+        let end = last_of(start, free);
         if words_at_most(last, end) {
             return n;
         }
         start = next(end);
         at += width + 1;
-        n += 1;
     }
+}
+
+// Writes the entries to the front of the buffer, which has room for them. Gives how many there are.
+fn write(first: Words, last: Words, width: usize, out: &mut [u8]) -> u32
+    requires { ⌜ Ordered width first last × (length (entriesOf width (walked first last)) ≤ length (now out)) ⌝ }
+    ensures { λ r. ⌜ Listed width (walked first last) (now (out .entry)) (now (out .exit)) r ⌝ }
+{
+    let stop = climb(first, last, width, out);
+    let at = stop.at;
+    stop.n + descend(stop.start, last, width, &mut out[at..])
 }
 
 // Whether so many bytes are enough for the entries. They are counted only where there are fewer than any range of the family needs.

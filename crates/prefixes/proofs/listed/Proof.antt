@@ -79,7 +79,7 @@ returns-3 c =
     let read = room .before .before .before in
     let done = c .before .before .write .ensures in
     written (now (start read .args .range)) (start read .args .width) (start read .pre .1) (first read) (last read) (read .before .words-at .ensures) (read .words-at2 .ensures)
-    _ (forward (room .before)) (told-enough _ _ _ (sym (c .before .before .before .before .enum-told .given .1) ∙ room .check-room .ensures)) (done .0) (done .1)
+    _ (forward (room .before)) (told-enough _ _ _ (sym (c .before .before .before .before .enum-told .given .1) ∙ room .check-room .ensures)) (done .counted) (done .front .is)
 
 pub listed-spec : {M : Type 1} → statement M
 listed-spec =

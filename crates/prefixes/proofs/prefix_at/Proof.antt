@@ -1,6 +1,7 @@
 -- The zeros decide where their prefix ends inside the range, and else what remains.
 use Prim.Native.Nat.{suc, _^_, _<_}
 use mathlib.Core.Path.{sym, _∙_}
+use native.Mathlib.Nat.{le-of-lt}
 use borrow.Author.Tests.{leb-true, leb-false}
 use Rattle.address.specs.Words.{numberOf}
 use Rattle.cidr.specs.First.{Largest}
@@ -43,8 +44,8 @@ largest : (c : tie.After-cap) → Largest (between (c .before .before .before .b
 largest c =
     let start = c .before .before .before .before .before in
     let beyond = leb-false _ _ (sym (c .before .before .before .words-at-most .ensures) ∙ c .before .before .if1 .left) in
-    step.by-room 128 _ _ _ (start .trailing-zeros .ensures) (below (start .before)) (c .before .remaining .ensures) (c .cap .ensures .1)
-    (walk.ends-after (c .before .before .before .before .last-of .ensures) beyond)
+    step.by-room (step.by-end 128 _ _ _ (start .trailing-zeros .ensures) (below (start .before)) (walk.ends-after (c .before .before .before .before .last-of .ensures) (le-of-lt beyond)))
+    (c .before .remaining .ensures) (c .cap .ensures .1)
 
 last-of-requires-2 : tie.Need-last-of-requires-2
 last-of-requires-2 c κs =
