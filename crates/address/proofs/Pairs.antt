@@ -4,8 +4,7 @@ use mathlib.Core.Bool.{true, false}
 use mathlib.Core.List.{List, [], _∷_}
 use Prim.Native.Nat.{ℕ, zero, suc, _+_, _*_, _/_, _%_, _<_, _≤_}
 use native.Mathlib.Omega.{arith}
-use native.Mathlib.Decide.{decLt}
-use native.Mathlib.Nat.{zero-mul, zero-add, mul-le-mul-right}
+use native.Mathlib.Nat.{zero-mul, zero-add}
 use lib.Dec.{leb}
 use lib.ListN.{length, getD}
 use Rattle.address.specs.Number.{valueFrom, atMost, Digits, Bytes, order}
@@ -72,19 +71,3 @@ module _ (base : ℕ) where
       where
         low : atMost (l ∷ []) (m ∷ []) ≡ leb l m
         low = order base (l ∷ []) (m ∷ []) refl (one l q) (one m s) ∙ rw (last-is l, last-is m)
-
--- the number after that of two words, to a base that is one more than last
-module _ (last : ℕ) where
-  pub low-next : (h l : ℕ) → h * suc last + (l + 1) ≡ suc (h * suc last + l)
-  low-next h l = omega arith
-
-  pub high-next : (h l : ℕ) → l ≡ last → (h + 1) * suc last + 0 ≡ suc (h * suc last + l)
-  high-next h l e = rw e (omega arith)
-
-  -- there is one, where another number is greater
-  pub room : (h l g m : ℕ) → g < suc last → m < suc last → h * suc last + l < g * suc last + m → l ≡ last → h < last
-  room h l g m q r k e = go (decLt h last)
-    where
-      go : Dec (h < last) → h < last
-      go (yes x) = x
-      go (no x) = let f : g ≤ h = omega arith in absurd (omega (arith, rw e at k, mul-le-mul-right (suc last) f))

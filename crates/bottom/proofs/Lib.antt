@@ -1,5 +1,6 @@
 pub mod Indices
 pub mod Gaps
+pub mod Carry
 pub mod Hops
 pub mod Tests
 pub mod Gathers

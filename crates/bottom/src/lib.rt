@@ -1,6 +1,6 @@
 // Bottom over a sound image: each block of the family is tested by a walk over its own children, which stops at the first address left over.
 ghost use mathlib.Core.Path.{_≡_};
-ghost use Prim.Native.Nat.{_+_, _≤_, _<_, max, min};
+ghost use Prim.Native.Nat.{suc, _+_, _≤_, _<_, max, min};
 ghost use lib.ListN.{length};
 ghost use Rattle.address.specs.Address.{numbers};
 ghost use Rattle.address.specs.Words.{numberOf};
@@ -11,7 +11,6 @@ ghost use Rattle.listing.specs.Listing.{Collected};
 ghost use Rattle.bottom.specs.Links.{nth, Link, Linked, Reachable, Started, Gathered, Numbered, Testable};
 use address::Range;
 use address::Words;
-use address::next;
 use address::numbers_at_most;
 use address::words_at;
 use address::words_at_most;
@@ -85,6 +84,23 @@ fn greater(x: Words, y: Words) -> Words
     ensures { λ r. ⌜ numberOf r ≡ max (numberOf x) (numberOf y) ⌝ }
 {
     if words_at_most(x, y) { y } else { x }
+}
+
+// The address after one that is not the last of all.
+fn next(x: Words) -> Words
+    requires { ⌜ (x .low ≡ 18446744073709551615 → x .high < 18446744073709551615) ⌝ }
+    ensures { λ r. ⌜ numberOf r ≡ suc (numberOf x) ⌝ }
+{
+    if x.low < 18446744073709551615 {
+        return Words {
+            high: x.high,
+            low: x.low + 1,
+        };
+    }
+    Words {
+        high: x.high + 1,
+        low: 0,
+    }
 }
 
 // Whether the children of block i leave an address from free to limit.

@@ -6,6 +6,7 @@ ghost use Rattle.address.specs.Address.{number, numbers};
 ghost use Rattle.prefix.specs.Prefix.{prefixRange};
 use address::Address;
 use address::Range;
+use address::power_of_two;
 use address::wide;
 
 // The range of a prefix, where ok says that there is one.
@@ -19,13 +20,6 @@ fn byte_bits(n: u32) -> u32
     ensures { λ r. ⌜ r ≡ min n 8 ⌝ }
 {
     if n < 8 { n } else { 8 }
-}
-
-fn power_of_two(k: u32) -> u64
-    requires { ⌜ k ≤ 8 ⌝ }
-    ensures { λ r. ⌜ (r ≡ 2 ^ k) × (0 < r) × (r ≤ 256) ⌝ }
-{
-    1u64 << k
 }
 
 // The addresses, of so many bits, that begin with the first l bits of first; refused where one of its bits after l is not zero.

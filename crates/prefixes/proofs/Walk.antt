@@ -23,16 +23,23 @@ ends-after h l = omega arith
 pub ends-inside : (w : ℕ) {s e t : ℕ} → e < 2 ^ w → Largest (from-to s e) t → s + 2 ^ t ≤ 2 ^ w
 ends-inside w below largest = omega (arith, largest .inside)
 
--- the prefix at s has t free bits and ends with r
+-- the prefix at s has t free bits, and n is the address after it
+module _ (w : ℕ) {s e t n : ℕ} (below : e < 2 ^ w) (largest : Largest (from-to s e) t) (after : n ≡ s + 2 ^ t) where
+  pub one-more : prefixesOf w (from-to s e) ≡ prefix s t ∷ prefixesOf w (from-to n e)
+  one-more = first-prefix w (from-to s e) t below largest ∙ rw after
+
+  pub falls : n ≤ e → e - n < e - s
+  falls h = omega (arith, pow-pos t)
+
+-- it ends with r
 module _ (w : ℕ) {s e t r : ℕ} (below : e < 2 ^ w) (largest : Largest (from-to s e) t) (end : suc r ≡ s + 2 ^ t) where
-  step : prefixesOf w (from-to s e) ≡ prefix s t ∷ prefixesOf w (from-to (suc r) e)
-  step = first-prefix w (from-to s e) t below largest ∙ rw end
-
   pub last-one : e ≤ r → prefixesOf w (from-to s e) ≡ prefix s t ∷ []
-  last-one h = step ∙ ap (λ (l : List Prefix). prefix s t ∷ l) (no-more w (suc r) e (omega arith))
+  last-one h = one-more w below largest end ∙ ap (λ (l : List Prefix). prefix s t ∷ l) (no-more w (suc r) e (omega arith))
 
-  pub one-more : {n : ℕ} → n ≡ suc r → prefixesOf w (from-to s e) ≡ prefix s t ∷ prefixesOf w (from-to n e)
-  one-more h = step ∙ rw h
+  -- before the range does
+  module _ (h : r < e) where
+    pub not-all : s + 2 ^ t < 2 ^ w
+    not-all = omega arith
 
-  pub falls : {n : ℕ} → n ≡ suc r → r < e → e - n < e - s
-  falls h g = omega (arith, pow-pos t)
+    pub inside : {n : ℕ} → n ≡ s + 2 ^ t → n ≤ e
+    inside after = omega arith

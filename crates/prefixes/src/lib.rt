@@ -13,7 +13,7 @@ ghost use Rattle.cidr.specs.First.{Largest, Capped, Top};
 ghost use Rattle.prefixes.specs.Call.{bigEndian, entryOf, entriesOf, ipRange, ipRangeOf, prefixedOf, bufferAfter};
 ghost use Rattle.prefixes.specs.Entries.{between, walked, Ordered, wordsOf, bytesOf, EntryFits, Listed, Climbed, fitOf};
 use address::Words;
-use address::next;
+use address::power_of_two;
 use address::words_at;
 use address::words_at_most;
 
@@ -93,17 +93,6 @@ fn cap(left: Words) -> u32
     128
 }
 
-// The k low bits set.
-fn ones(k: u32) -> u64
-    requires { ⌜ k ≤ 64 ⌝ }
-    ensures { λ r. ⌜ suc r ≡ 2 ^ k ⌝ }
-{
-    if k == 64 {
-        return 18446744073709551615;
-    }
-    (1u64 << k) - 1
-}
-
 // The last address of the prefix at start.
 fn last_of(start: Words, free: u32) -> Words
     requires { ⌜ (free ≤ 128) × (numberOf start % 2 ^ free ≡ 0) × (numberOf start + 2 ^ free ≤ 2 ^ 128) ⌝ }
@@ -111,15 +100,41 @@ fn last_of(start: Words, free: u32) -> Words
 {
     let high = start.high;
     let low = start.low;
-    if free <= 64 {
-        let end = low + ones(free);
+    if free < 64 {
+        let end = low + (power_of_two(free) - 1);
         return Words { high, low: end };
     }
-    let end = high + ones(free - 64);
+    if free < 128 {
+        let end = high + (power_of_two(free - 64) - 1);
+        return Words {
+            high: end,
+            low: 18446744073709551615,
+        };
+    }
     Words {
-        high: end,
+        high: 18446744073709551615,
         low: 18446744073709551615,
     }
+}
+
+// The address after that prefix, where there is one. It waits for the start alone, not for the last address.
+fn after(start: Words, free: u32) -> Words
+    requires { ⌜ (numberOf start % 2 ^ free ≡ 0) × (numberOf start + 2 ^ free < 2 ^ 128) ⌝ }
+    ensures { λ r. ⌜ numberOf r ≡ numberOf start + 2 ^ free ⌝ }
+{
+    let high = start.high;
+    let low = start.low;
+    if free < 64 {
+        let size = power_of_two(free);
+        if low <= 18446744073709551615 - size {
+            let next = low + size;
+            return Words { high, low: next };
+        }
+        let next = high + 1;
+        return Words { high: next, low: 0 };
+    }
+    let next = high + power_of_two(free - 64);
+    Words { high: next, low }
 }
 
 // The next prefix: how many of its bits are free, and its last address.
@@ -154,11 +169,11 @@ fn count(first: Words, last: Words) -> u32
     let mut start = first;
     let mut n: u32 = 1;
     loop {
-        let end = prefix_at(start, last).end;
-        if words_at_most(last, end) {
+        let p = prefix_at(start, last);
+        if words_at_most(last, p.end) {
             return n;
         }
-        start = next(end);
+        start = after(start, p.free);
         n += 1;
     }
 }
@@ -247,7 +262,7 @@ fn climb(first: Words, last: Words, width: usize, out: &mut [u8]) -> Stop
             return Stop { start, at, n };
         }
         put_entry(start, zeros, width, &mut out[at..]);
-        start = next(end);
+        start = after(start, zeros);
         at += width + 1;
         n += 1;
     }
@@ -269,7 +284,7 @@ fn descend(first: Words, last: Words, width: usize, out: &mut [u8]) -> u32
         if words_at_most(last, end) {
             return n;
         }
-        start = next(end);
+        start = after(start, free);
         at += width + 1;
     }
 }

@@ -9,7 +9,7 @@ use Rattle.address.specs.Words.{numberOf}
 use Rattle.blocks.specs.Scans.{gapPass}
 use Rattle.scans.specs.Standing.{blocksIn}
 use Rattle.bottom.specs.Links.{nth}
-use Rattle.address.proofs.Pairs.{room}
+use Rattle.bottom.proofs.Carry.{room}
 use Rattle.bottom.proofs.Tests.{comparable-at}
 use Rattle.bottom.proofs.Children.{Walking, walk-start, walk-end, child-known, walk-gap, walk-over, walk-next}
 use borrow.Author.Needs.{needs}

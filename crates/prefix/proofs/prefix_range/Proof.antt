@@ -102,7 +102,7 @@ sub-last : tie.Need-sub-last Inv-loop μ-loop
 sub-last c = search needs
 
 add-last : tie.Need-add-last Inv-loop μ-loop
-add-last c = search needs
+add-last c = record { fits = omega (arith, low.room (k (c .before)) (c .before .wide .result) (omega arith) (c .before .wide .ensures .1) (rw (size (c .before)) at (c .if1 .left)), size (c .before)) }
 
 cast-last : tie.Need-cast-last Inv-loop μ-loop
 cast-last c =

@@ -8,7 +8,6 @@ use borrow.Author.Tests.{leb-true, leb-false}
 use lib.ListN.{length}
 use denote.Ref.{now}
 use Rattle.address.specs.Words.{numberOf}
-use Rattle.address.proofs.Pairs.{room}
 use Rattle.listing.proofs.Writing.{rest-length}
 use Rattle.cidr.specs.Prefixes.{prefix, from-to, prefixesOf}
 use Rattle.cidr.specs.First.{Largest}
@@ -29,15 +28,8 @@ Inv-loop last width out₀ start₀ at₀ n₀ out start at n =
 abbrev μ-loop : tie.MeasureT-loop
 μ-loop last width out₀ start₀ at₀ n₀ out start at n = numberOf last - numberOf start
 
-module _ (c : tie.Start Inv-loop μ-loop) where
-  high : c .args .last .high < 18446744073709551616
-  high = search needs
-
-  low : c .args .last .low < 18446744073709551616
-  low = search needs
-
-  below : numberOf (c .args .last) < 2 ^ 128
-  below = walk.wide high low
+below : (c : tie.Start Inv-loop μ-loop) → numberOf (c .args .last) < 2 ^ 128
+below c = walk.wide {h = c .args .last .high} {l = c .args .last .low} (search needs) (search needs)
 
 loop-holds : tie.Need-loop-holds Inv-loop μ-loop
 loop-holds c = let a = c .before in (a .pre .0 .forward, nothing-entered (a .args .width) (walked (a .args .first) (a .args .last)) (now (a .args .out)))
@@ -105,24 +97,26 @@ put-entry-requires : tie.Need-put-entry-requires Inv-loop μ-loop
 put-entry-requires c κs =
     let at-entry = c .before in
     let o = start at-entry .pre .0 in
-    let loop = turn at-entry .before .loop in
-    (
+    let loop = turn at-entry .before .loop in (
       entry-fits (start at-entry .args .width) (o .wide) (loop .inv .0) (o .below) (largest at-entry),
       omega (arith, inside at-entry, rest-length (loop .out) (loop .at)),
     )
 
-next-requires : tie.Need-next-requires Inv-loop μ-loop
-next-requires c κs =
-    let at-entry = c .before .before .before .before in
-    room 18446744073709551615 _ _ _ _ (high (start at-entry)) (low (start at-entry)) (not-yet at-entry)
+after-requires : tie.Need-after-requires Inv-loop μ-loop
+after-requires c κs =
+    let entry = c .before .before .before .before in
+    (largest entry .zeros, walk.not-all 128 (below (start entry)) (largest entry) (entry .before .before .last-of .ensures) (not-yet entry))
 
-module _ (c : tie.After-next Inv-loop μ-loop) where
+module _ (c : tie.After-after Inv-loop μ-loop) where
   abbrev entry : tie.Else1 Inv-loop μ-loop
   entry = c .before .before .before .before .before
 
   more : walked (turn entry .before .loop .start) (start entry .args .last)
-      ≡ prefix (numberOf (turn entry .before .loop .start)) (turn entry .trailing-zeros .result) ∷ walked (c .next .result) (start entry .args .last)
-  more = walk.one-more 128 (below (start entry)) (largest entry) (entry .before .before .last-of .ensures) (c .next .ensures)
+      ≡ prefix (numberOf (turn entry .before .loop .start)) (turn entry .trailing-zeros .result) ∷ walked (c .after .result) (start entry .args .last)
+  more = walk.one-more 128 (below (start entry)) (largest entry) (c .after .ensures)
+
+  forward : numberOf (c .after .result) ≤ numberOf (start entry .args .last)
+  forward = walk.inside 128 (below (start entry)) (largest entry) (entry .before .before .last-of .ensures) (not-yet entry) (c .after .ensures)
 
 add-at : tie.Need-add-at Inv-loop μ-loop
 add-at c = omega (arith, fits (entry c))
@@ -136,13 +130,10 @@ add-n c =
     omega (arith, few-entered (turn (entry c) .before .loop .inv .1) (s .pre .1) (more c), at-most-254 (between (s .args .first) (s .args .last)) (below s))
 
 loop-less : tie.Need-loop-less Inv-loop μ-loop
-loop-less c = walk.falls 128 (below (start (entry c))) (largest (entry c)) (entry c .before .before .last-of .ensures) (c .next .ensures) (not-yet (entry c))
+loop-less c = walk.falls 128 (below (start (entry c))) (largest (entry c)) (c .after .ensures) (forward c)
 
 loop-again : tie.Need-loop-again Inv-loop μ-loop
-loop-again c = (
-  rw (c .next .ensures) (not-yet (entry c)),
-  entered (turn (entry c) .before .loop .inv .1) (start (entry c) .pre .1) (more c) (c .before .before .before .put-entry .ensures),
-)
+loop-again c = (forward c, entered (turn (entry c) .before .loop .inv .1) (start (entry c) .pre .1) (more c) (c .before .before .before .put-entry .ensures))
 
 pub climb-spec : {M : Type 1} → statement M
 climb-spec =
@@ -160,7 +151,7 @@ climb-spec =
     part-put-entry-start
     part-put-entry-end
     put-entry-requires
-    next-requires
+    after-requires
     add-at
     add-at-2
     add-n

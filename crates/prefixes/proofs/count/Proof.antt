@@ -6,7 +6,6 @@ use native.Mathlib.Omega.{arith}
 use borrow.Author.Tests.{leb-true, leb-false}
 use lib.ListN.{length}
 use Rattle.address.specs.Words.{numberOf}
-use Rattle.address.proofs.Pairs.{room}
 use Rattle.cidr.specs.Prefixes.{prefix}
 use Rattle.cidr.proofs.Theorem.{at-most-254}
 use Rattle.prefixes.specs.Entries.{between, walked}
@@ -21,15 +20,8 @@ Inv-loop last start₀ n₀ start n = (numberOf start ≤ numberOf last) × (n +
 abbrev μ-loop : tie.MeasureT-loop
 μ-loop last start₀ n₀ start n = numberOf last - numberOf start
 
-module _ (c : tie.Start Inv-loop μ-loop) where
-  high : c .args .last .high < 18446744073709551616
-  high = search needs
-
-  low : c .args .last .low < 18446744073709551616
-  low = search needs
-
-  below : numberOf (c .args .last) < 2 ^ 128
-  below = walk.wide high low
+below : (c : tie.Start Inv-loop μ-loop) → numberOf (c .args .last) < 2 ^ 128
+below c = walk.wide {h = c .args .last .high} {l = c .args .last .low} (search needs) (search needs)
 
 loop-holds : tie.Need-loop-holds Inv-loop μ-loop
 loop-holds c = (c .pre, omega arith)
@@ -42,42 +34,43 @@ words-at-most-requires c κs = tt
 
 returns : tie.Need-returns Inv-loop μ-loop
 returns c =
-    let turn = c .before .before .before in
+    let turn = c .before .before in
     let last = leb-true _ _ (sym (c .before .words-at-most .ensures) ∙ c .if1 .taken) in
     let one = walk.last-one 128 (below (turn .before .before)) (turn .prefix-at .ensures .0) (turn .prefix-at .ensures .1) last in
     omega (arith, turn .before .loop .inv .1, ap length one)
 
 -- the prefix at the start ends before the range does
-not-yet : (c : tie.Else1 Inv-loop μ-loop) → numberOf (c .before .before .before .prefix-at .result .end) < numberOf (c .before .before .before .before .before .args .last)
+not-yet : (c : tie.Else1 Inv-loop μ-loop) → numberOf (c .before .before .prefix-at .result .end) < numberOf (c .before .before .before .before .args .last)
 not-yet c = leb-false _ _ (sym (c .before .words-at-most .ensures) ∙ c .if1 .left)
 
-next-requires : tie.Need-next-requires Inv-loop μ-loop
-next-requires c κs =
-    let start = c .before .before .before .before .before in
-    room 18446744073709551615 _ _ _ _ (high start) (low start) (not-yet c)
+after-requires : tie.Need-after-requires Inv-loop μ-loop
+after-requires c κs =
+    let p = c .before .before .prefix-at .ensures in
+    (p .0 .zeros, walk.not-all 128 (below (c .before .before .before .before)) (p .0) (p .1) (not-yet c))
 
-more : (c : tie.After-next Inv-loop μ-loop)
-    → walked (c .before .before .before .before .before .loop .start) (c .before .before .before .before .before .before .args .last)
-    ≡ prefix (numberOf (c .before .before .before .before .before .loop .start)) (c .before .before .before .before .prefix-at .result .free)
-    ∷ walked (c .next .result) (c .before .before .before .before .before .before .args .last)
-more c =
-    let turn = c .before .before .before .before in
-    walk.one-more 128 (below (turn .before .before)) (turn .prefix-at .ensures .0) (turn .prefix-at .ensures .1) (c .next .ensures)
+module _ (c : tie.After-after Inv-loop μ-loop) where
+  abbrev turn : tie.After-prefix-at Inv-loop μ-loop
+  turn = c .before .before .before
+
+  abbrev start : tie.Start Inv-loop μ-loop
+  start = turn .before .before
+
+  more : walked (turn .before .loop .start) (start .args .last)
+      ≡ prefix (numberOf (turn .before .loop .start)) (turn .prefix-at .result .free) ∷ walked (c .after .result) (start .args .last)
+  more = walk.one-more 128 (below start) (turn .prefix-at .ensures .0) (c .after .ensures)
+
+  inside : numberOf (c .after .result) ≤ numberOf (start .args .last)
+  inside = walk.inside 128 (below start) (turn .prefix-at .ensures .0) (turn .prefix-at .ensures .1) (not-yet (c .before)) (c .after .ensures)
 
 add-n : tie.Need-add-n Inv-loop μ-loop
 add-n c =
-    let walked = c .before .before .before .before .before in
-    omega (arith, walked .loop .inv .1, ap length (more c), at-most-254 (between (walked .before .args .first) (walked .before .args .last)) (below (walked .before)))
+    omega (arith, turn c .before .loop .inv .1, ap length (more c), at-most-254 (between (start c .args .first) (start c .args .last)) (below (start c)))
 
 loop-less : tie.Need-loop-less Inv-loop μ-loop
-loop-less c =
-    let turn = c .before .before .before .before in
-    walk.falls 128 (below (turn .before .before)) (turn .prefix-at .ensures .0) (turn .prefix-at .ensures .1) (c .next .ensures) (not-yet (c .before))
+loop-less c = walk.falls 128 (below (start c)) (turn c .prefix-at .ensures .0) (c .after .ensures) (inside c)
 
 loop-again : tie.Need-loop-again Inv-loop μ-loop
-loop-again c =
-    let walked = c .before .before .before .before .before in
-    (rw (c .next .ensures) (not-yet (c .before)), omega (arith, walked .loop .inv .1, ap length (more c)))
+loop-again c = (inside c, omega (arith, turn c .before .loop .inv .1, ap length (more c)))
 
 pub count-spec : {M : Type 1} → statement M
 count-spec =
@@ -89,7 +82,7 @@ count-spec =
     prefix-at-requires
     words-at-most-requires
     returns
-    next-requires
+    after-requires
     add-n
     loop-less
     loop-again)

@@ -8,7 +8,6 @@ use borrow.Author.Tests.{leb-true, leb-false}
 use lib.ListN.{length}
 use denote.Ref.{now}
 use Rattle.address.specs.Words.{numberOf}
-use Rattle.address.proofs.Pairs.{room}
 use Rattle.listing.proofs.Writing.{rest-length}
 use Rattle.cidr.specs.Prefixes.{prefix, from-to, prefixesOf}
 use Rattle.cidr.specs.First.{Largest, Capped}
@@ -29,15 +28,8 @@ Inv-loop last width out₀ start₀ at₀ n₀ out start at n =
 abbrev μ-loop : tie.MeasureT-loop
 μ-loop last width out₀ start₀ at₀ n₀ out start at n = numberOf last - numberOf start
 
-module _ (c : tie.Start Inv-loop μ-loop) where
-  high : c .args .last .high < 18446744073709551616
-  high = search needs
-
-  low : c .args .last .low < 18446744073709551616
-  low = search needs
-
-  below : numberOf (c .args .last) < 2 ^ 128
-  below = walk.wide high low
+below : (c : tie.Start Inv-loop μ-loop) → numberOf (c .args .last) < 2 ^ 128
+below c = walk.wide {h = c .args .last .high} {l = c .args .last .low} (search needs) (search needs)
 
 loop-holds : tie.Need-loop-holds Inv-loop μ-loop
 loop-holds c = let a = c .before in (a .pre .0 .forward, a .pre .1, nothing-entered (a .args .width) (walked (a .args .first) (a .args .last)) (now (a .args .out)))
@@ -82,8 +74,7 @@ put-entry-requires : tie.Need-put-entry-requires Inv-loop μ-loop
 put-entry-requires c κs =
     let capped = c .before in
     let o = start capped .pre .0 in
-    let loop = turn capped .loop in
-    (
+    let loop = turn capped .loop in (
       entry-fits (start capped .args .width) (o .wide) (loop .inv .0) (o .below) (largest capped),
       omega (arith, inside capped, rest-length (loop .out) (loop .at)),
     )
@@ -120,18 +111,21 @@ returns c =
 not-yet : (c : tie.Else1 Inv-loop μ-loop) → numberOf (c .before .before .last-of .result) < numberOf (start (c .before .before .before .before .before .before .before) .args .last)
 not-yet c = leb-false _ _ (sym (c .before .words-at-most .ensures) ∙ c .if1 .left)
 
-next-requires : tie.Need-next-requires Inv-loop μ-loop
-next-requires c κs =
-    let s = start (c .before .before .before .before .before .before .before) in
-    room 18446744073709551615 _ _ _ _ (high s) (low s) (not-yet c)
+after-requires : tie.Need-after-requires Inv-loop μ-loop
+after-requires c κs =
+    let capped = c .before .before .before .before .before .before .before in
+    (largest capped .zeros, walk.not-all 128 (below (start capped)) (largest capped) (c .before .before .last-of .ensures) (not-yet c))
 
-module _ (c : tie.After-next Inv-loop μ-loop) where
+module _ (c : tie.After-after Inv-loop μ-loop) where
   abbrev at-cap : tie.After-cap Inv-loop μ-loop
   at-cap = c .before .before .before .before .before .before .before .before
 
   more : walked (turn at-cap .loop .start) (start at-cap .args .last)
-      ≡ prefix (numberOf (turn at-cap .loop .start)) (at-cap .cap .result) ∷ walked (c .next .result) (start at-cap .args .last)
-  more = walk.one-more 128 (below (start at-cap)) (largest at-cap) (c .before .before .before .last-of .ensures) (c .next .ensures)
+      ≡ prefix (numberOf (turn at-cap .loop .start)) (at-cap .cap .result) ∷ walked (c .after .result) (start at-cap .args .last)
+  more = walk.one-more 128 (below (start at-cap)) (largest at-cap) (c .after .ensures)
+
+  forward : numberOf (c .after .result) ≤ numberOf (start at-cap .args .last)
+  forward = walk.inside 128 (below (start at-cap)) (largest at-cap) (c .before .before .before .last-of .ensures) (not-yet (c .before)) (c .after .ensures)
 
 add-at : tie.Need-add-at Inv-loop μ-loop
 add-at c = omega (arith, fits (at-cap c))
@@ -140,15 +134,13 @@ add-at-2 : tie.Need-add-at-2 Inv-loop μ-loop
 add-at-2 c = omega (arith, fits (at-cap c))
 
 loop-less : tie.Need-loop-less Inv-loop μ-loop
-loop-less c =
-    walk.falls 128 (below (start (at-cap c))) (largest (at-cap c)) (c .before .before .before .last-of .ensures) (c .next .ensures) (not-yet (c .before))
+loop-less c = walk.falls 128 (below (start (at-cap c))) (largest (at-cap c)) (c .after .ensures) (forward c)
 
 loop-again : tie.Need-loop-again Inv-loop μ-loop
 loop-again c =
-    let loop = turn (at-cap c) .loop in
-    (
-      rw (c .next .ensures) (not-yet (c .before)),
-      step.still (loop .inv .1) (at-cap c .before .remaining .ensures) (at-cap c .cap .ensures .1) (c .next .ensures ∙ c .before .before .before .last-of .ensures),
+    let loop = turn (at-cap c) .loop in (
+      forward c,
+      step.still (loop .inv .1) (at-cap c .before .remaining .ensures) (at-cap c .cap .ensures .1) (c .after .ensures),
       entered (loop .inv .2) (start (at-cap c) .pre .2) (more c) (c .before .before .before .before .before .before .put-entry .ensures),
     )
 
@@ -170,7 +162,7 @@ descend-spec =
     words-at-most-requires
     same-length
     returns
-    next-requires
+    after-requires
     add-at
     add-at-2
     loop-less

@@ -34,8 +34,7 @@ part-descend-end c = search needs
 descend-requires : tie.Need-descend-requires
 descend-requires c κs =
     let climbed = c .before .before .before in
-    let o = start climbed .pre .0 in
-    (
+    let o = start climbed .pre .0 in (
       record { wide = o .wide; forward = climbed .climb .ensures .forward; below = o .below },
       climbed .climb .ensures .capped,
       omega (arith, inside climbed, rest-length (climbed .climb .last .1 .1 .1 .0) (climbed .climb .result .at)),

@@ -1,9 +1,9 @@
--- `address::next` meets its contract: the low word is one more, or the high word is and the low one 0.
+-- `bottom::next` meets its contract: the low word is one more, or the high word is and the low one 0.
 use native.Mathlib.Omega.{arith}
-use Rattle.address.proofs.Pairs.{low-next, high-next}
+use Rattle.bottom.proofs.Carry.{low-next, high-next}
 use borrow.Author.Needs.{needs}
-use Rattle.address.proofs.next.Statement.{statement}
-use Rattle.address.proofs.next.Tie as tie
+use Rattle.bottom.proofs.next.Statement.{statement}
+use Rattle.bottom.proofs.next.Tie as tie
 
 add-t3 : tie.Need-add-t3
 add-t3 c = search needs
