@@ -2,6 +2,7 @@ pub mod Digits
 pub mod Ends
 pub mod Tops
 pub mod Walk
+pub mod Falling
 pub mod Bytes
 pub mod Writing
 pub mod Room

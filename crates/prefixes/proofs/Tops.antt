@@ -1,9 +1,10 @@
--- The place of the highest bit of one more than a number of two words.
-use Prim.Native.Nat.{ℕ, suc, _+_, _-_, _*_, _≤_, _<_}
+-- The highest bit of a number of two words, and of one more than such a number.
+use Prim.Native.Nat.{ℕ, suc, _+_, _-_, _*_, _^_, _≤_, _<_}
 use mathlib.Core.Path.{_≡_}
 use native.Mathlib.Omega.{arith}
 use native.Mathlib.Bridge.{le-by-compare, IsLe}
 use lib.Count.{leadingZeros, leading-top}
+use lib.Pow.{pow-add}
 use Rattle.cidr.specs.First.{Top}
 use Rattle.cidr.proofs.Step.{top-high}
 
@@ -31,3 +32,19 @@ top-carried h l p b =
 pub top-all : (h l : ℕ) → h ≡ 18446744073709551615 → l ≡ 18446744073709551615 → Top (suc (h * 18446744073709551616 + l)) 128
 unfolding IsLe
 top-all h l e f = rw (e, f) (record { from = le-by-compare 340282366920938463463374607431768211456 340282366920938463463374607431768211456 tt; to = le-by-compare 340282366920938463463374607431768211457 680564733841876926926749214863536422912 tt })
+
+-- a number of two words without its highest bit
+pub low-word : (h l : ℕ) → h ≡ 0 → h * 18446744073709551616 + l ≡ l
+low-word h l e = omega arith
+
+pub low-some : (h l : ℕ) → h ≡ 0 → 0 < h * 18446744073709551616 + l → 0 < l
+low-some h l e p = omega arith
+
+pub low-split : (h l : ℕ) {size t : ℕ} → h ≡ 0 → size ≡ 2 ^ t → Top l t → h * 18446744073709551616 + l ≡ 2 ^ t + (h * 18446744073709551616 + (l - size))
+low-split h l e is p = rw e (omega (arith, is, p .from))
+
+pub high-split : (k h l : ℕ) {size t : ℕ} → size ≡ 2 ^ t → Top h t → h * 2 ^ k + l ≡ 2 ^ (k + t) + ((h - size) * 2 ^ k + l)
+high-split k h l {size} {t} is p = go (h - size) (omega (arith, is, p .from))
+  where
+    go : (r : ℕ) → h ≡ r + size → h * 2 ^ k + l ≡ 2 ^ (k + t) + (r * 2 ^ k + l)
+    go r e = rw (e, is, pow-add 2 k t) (omega arith)

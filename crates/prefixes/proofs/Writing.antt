@@ -82,6 +82,11 @@ module _ {width at n : ℕ} {all rest : List Prefix} {before after : List ℕ} (
       counted = omega (arith, g .counted, length-append (g .done) (p ∷ []));
     }
 
+-- the first one alone
+pub one-entered : {width : ℕ} {p : Prefix} {rest : List Prefix} {before after : List ℕ} → Written (entryOf width p) before after (width + 1)
+    → Entered width (p ∷ rest) rest before after (width + 1) 1
+one-entered {width} {p} w = record { done = p ∷ []; whole = refl; front = rw (one-entry width p) w; counted = refl }
+
 -- none is left
 pub all-entered : {width at n : ℕ} {all : List Prefix} {before after : List ℕ} → Entered width all [] before after at n → Listed width all before after n
 all-entered {width} {at} {n} {all} {before} {after} g =

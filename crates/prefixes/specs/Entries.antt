@@ -1,5 +1,5 @@
 -- Serves contracts and proofs. The entries of prefixes, as the code counts and writes them.
-use Prim.Native.Nat.{ℕ, _*_, _^_, _≤_, _<_}
+use Prim.Native.Nat.{ℕ, _+_, _-_, _*_, _^_, _%_, _≤_, _<_}
 use mathlib.Core.Bool.{cond}
 use mathlib.Core.Path.{_≡_}
 use mathlib.Core.List.{List, [], _∷_, _++_}
@@ -61,6 +61,19 @@ pub record Climbed (width : ℕ) (first last : Words) (before after : List ℕ) 
   pub entered : Entered width (walked first last) (walked (r .start) last) before after (r .at) (r .n)
   pub forward : numberOf (r .start) ≤ numberOf last
   pub capped : Capped (between (r .start) last)
+
+-- the prefixes of so many addresses from first on
+abbrev pub fallen : Words → Words → List Prefix
+fallen first number = prefixesOf 128 (from-to (numberOf first) (numberOf first + numberOf number - 1))
+
+-- fewer addresses from first on than a block that its zero bits allow, and first is not 0
+pub record Falling (width : ℕ) (first number : Words) : Type 0 where
+  pub wide : Wide width
+  pub positive : 0 < numberOf first
+  pub below : numberOf first + numberOf number ≤ 2 ^ (8 * width)
+  pub bits : ℕ
+  pub zeros : numberOf first % 2 ^ bits ≡ 0
+  pub few : numberOf number < 2 ^ bits
 
 -- whether so much room is enough for the entries; if it is not, how many there are
 abbrev pub fitOf : ℕ → ℕ → List Prefix → Fit

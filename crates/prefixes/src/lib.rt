@@ -4,6 +4,7 @@ ghost use mathlib.Core.Path.{_≡_};
 ghost use mathlib.Core.List.{_++_};
 ghost use Prim.Native.Nat.{suc, _+_, _-_, _*_, _^_, _%_, _≤_, _<_};
 ghost use lib.Count.{trailingZeros};
+ghost use lib.Dec.{eqb};
 ghost use lib.ListN.{length, getD, take, drop};
 ghost use Rattle.address.specs.Positions.{Wide};
 ghost use Rattle.address.specs.Words.{numberOf};
@@ -11,7 +12,7 @@ ghost use Rattle.listing.specs.Writing.{Written};
 ghost use Rattle.cidr.specs.Prefixes.{prefix};
 ghost use Rattle.cidr.specs.First.{Largest, Capped, Top};
 ghost use Rattle.prefixes.specs.Call.{bigEndian, entryOf, entriesOf, ipRange, ipRangeOf, prefixedOf, bufferAfter};
-ghost use Rattle.prefixes.specs.Entries.{between, walked, Ordered, wordsOf, bytesOf, EntryFits, Listed, Climbed, fitOf};
+ghost use Rattle.prefixes.specs.Entries.{between, walked, Ordered, wordsOf, bytesOf, EntryFits, Listed, Climbed, fallen, Falling, fitOf};
 use address::Words;
 use address::power_of_two;
 use address::words_at;
@@ -73,6 +74,45 @@ fn top_bit(v: u64) -> u32
     ensures { λ r. ⌜ (r < 64) × Top v r ⌝ }
 {
     63 - u64::leading_zeros(v)
+}
+
+// The highest bit of a number, and the number without it.
+struct Split {
+    free: u32,
+    rest: Words,
+}
+
+fn split_top(n: Words) -> Split
+    requires { ⌜ 0 < numberOf n ⌝ }
+    ensures { λ r. ⌜ Top (numberOf n) (r .free) × (numberOf n ≡ 2 ^ r .free + numberOf (r .rest)) ⌝ }
+{
+    let high = n.high;
+    let low = n.low;
+    if high == 0 {
+        let free = top_bit(low);
+        let below = low - power_of_two(free);
+        return Split {
+            free,
+            rest: Words { high, low: below },
+        };
+    }
+    let top = top_bit(high);
+    let above = high - power_of_two(top);
+    let free = 64 + top;
+    Split {
+        free,
+        rest: Words { high: above, low },
+    }
+}
+
+fn is_zero(n: Words) -> bool
+    ensures { λ r. ⌜ r ≡ eqb (numberOf n) 0 ⌝ }
+{
+    let low = n.low;
+    if n.high != 0 {
+        return false;
+    }
+    low == 0
 }
 
 // The bits that may be free in so many addresses and one more.
@@ -268,25 +308,40 @@ fn climb(first: Words, last: Words, width: usize, out: &mut [u8]) -> Stop
     }
 }
 
+// Writes the entries of so many addresses from first on, fewer than its zeros allow: a prefix for each bit of their number, from the highest
+// on. Gives how many there are.
+fn fall(first: Words, number: Words, width: usize, out: &mut [u8]) -> u32
+    requires { ⌜ Falling width first number × (length (entriesOf width (fallen first number)) ≤ length (now out)) ⌝ }
+    ensures { λ r. ⌜ Listed width (fallen first number) (now (out .entry)) (now (out .exit)) r ⌝ }
+{
+    let mut start = first;
+    let mut left = number;
+    let mut at: usize = 0;
+    let mut n: u32 = 0;
+    while !is_zero(left) {
+        let s = split_top(left);
+        put_entry(start, s.free, width, &mut out[at..]);
+        start = after(start, s.free);
+        left = s.rest;
+        at += width + 1;
+        n += 1;
+    }
+    n
+}
+
 // Writes the entries of the others, for which what remains decides. Gives how many there are.
 fn descend(first: Words, last: Words, width: usize, out: &mut [u8]) -> u32
     requires { ⌜ Ordered width first last × Capped (between first last) × (length (entriesOf width (walked first last)) ≤ length (now out)) ⌝ }
     ensures { λ r. ⌜ Listed width (walked first last) (now (out .entry)) (now (out .exit)) r ⌝ }
 {
-    let mut start = first;
-    let mut at: usize = 0;
-    let mut n: u32 = 0;
-    loop {
-        let free = cap(remaining(start, last));
-        put_entry(start, free, width, &mut out[at..]);
-        n += 1;
-        let end = last_of(start, free);
-        if words_at_most(last, end) {
-            return n;
-        }
-        start = after(start, free);
-        at += width + 1;
+    let free = cap(remaining(first, last));
+    put_entry(first, free, width, out);
+    let end = last_of(first, free);
+    if words_at_most(last, end) {
+        return 1;
     }
+    let number = remaining(end, last);
+    1 + fall(after(first, free), number, width, &mut out[width + 1..])
 }
 
 // Writes the entries to the front of the buffer, which has room for them. Gives how many there are.

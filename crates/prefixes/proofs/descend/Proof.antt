@@ -1,8 +1,7 @@
--- The loop's invariant: what remains decides, the first entries are written (Entered), and the others are those of the rest of the range.
-use Prim.Native.Nat.{_+_, _-_, _^_, _≤_, _<_}
+-- The first prefix, and those of what it leaves.
+use Prim.Native.Nat.{ℕ, suc, _+_, _-_, _^_, _≤_, _<_}
 use mathlib.Core.Path.{_≡_, sym, _∙_}
-use mathlib.Core.List.{[], _∷_}
-use native.Mathlib.Nat.{le-of-lt}
+use mathlib.Core.List.{_∷_}
 use native.Mathlib.Omega.{arith}
 use borrow.Author.Tests.{leb-true, leb-false}
 use lib.ListN.{length}
@@ -10,160 +9,154 @@ use denote.Ref.{now}
 use Rattle.address.specs.Words.{numberOf}
 use Rattle.listing.proofs.Writing.{rest-length}
 use Rattle.cidr.specs.Prefixes.{prefix, from-to, prefixesOf}
-use Rattle.cidr.specs.First.{Largest, Capped}
+use Rattle.cidr.specs.First.{Largest}
+use Rattle.cidr.proofs.Multiples.{sum, itself, of-remainder, to-remainder}
 use Rattle.cidr.proofs.Greedy.{first-prefix}
 use Rattle.cidr.proofs.Step as step
-use Rattle.cidr.proofs.Theorem.{at-most-254}
-use Rattle.prefixes.specs.Entries.{between, walked, Entered}
+use Rattle.prefixes.specs.Entries.{between, walked, fallen, Falling, Entered}
 use Rattle.prefixes.proofs.Walk as walk
-use Rattle.prefixes.proofs.Writing.{nothing-entered, kept-length, entry-inside, few-entered, entered, all-entered, entry-fits}
+use Rattle.prefixes.proofs.Falling.{same-last, positive-after, below-after, few-after}
+use Rattle.prefixes.proofs.Writing.{at-most-sixteen, nothing-entered, kept-length, rest-inside, entry-inside, one-entered, all-entered, both-listed, entry-fits}
+use Rattle.prefixes.proofs.Room.{few}
 use borrow.Author.Needs.{needs}
 use Rattle.prefixes.proofs.descend.Statement.{statement}
 use Rattle.prefixes.proofs.descend.Tie as tie
 
-abbrev Inv-loop : tie.InvT-loop
-Inv-loop last width out₀ start₀ at₀ n₀ out start at n =
-    (numberOf start ≤ numberOf last) × Capped (between start last) × Entered width (walked start₀ last) (walked start last) out₀ out at n
-
-abbrev μ-loop : tie.MeasureT-loop
-μ-loop last width out₀ start₀ at₀ n₀ out start at n = numberOf last - numberOf start
-
-below : (c : tie.Start Inv-loop μ-loop) → numberOf (c .args .last) < 2 ^ 128
+below : (c : tie.Start) → numberOf (c .args .last) < 2 ^ 128
 below c = walk.wide {h = c .args .last .high} {l = c .args .last .low} (search needs) (search needs)
 
-loop-holds : tie.Need-loop-holds Inv-loop μ-loop
-loop-holds c = let a = c .before in (a .pre .0 .forward, a .pre .1, nothing-entered (a .args .width) (walked (a .args .first) (a .args .last)) (now (a .args .out)))
+-- the first prefix
+module _ (c : tie.After-cap) where
+  abbrev start : tie.Start
+  start = c .before .before .before
 
-remaining-requires : tie.Need-remaining-requires Inv-loop μ-loop
-remaining-requires c κs = c .loop .inv .0
+  largest : Largest (between (start .args .first) (start .args .last)) (c .cap .result)
+  largest = step.by-room (start .pre .1) (c .before .remaining .ensures) (c .cap .ensures .1)
 
-cap-requires : tie.Need-cap-requires Inv-loop μ-loop
-cap-requires c κs = tt
+  known : walked (start .args .first) (start .args .last)
+      ≡ prefix (numberOf (start .args .first)) (c .cap .result) ∷ prefixesOf 128 (from-to (numberOf (start .args .first) + 2 ^ (c .cap .result)) (numberOf (start .args .last)))
+  known = first-prefix 128 (between (start .args .first) (start .args .last)) (c .cap .result) (below start) largest
 
--- the next entry has room
-module _ (c : tie.After-cap Inv-loop μ-loop) where
-  abbrev turn : tie.At-loop Inv-loop μ-loop
-  turn = c .before .before
+  roomy : start .args .width + 1 ≤ length (now (start .args .out))
+  roomy = omega (arith, entry-inside (nothing-entered (start .args .width) (walked (start .args .first) (start .args .last)) (now (start .args .out))) (start .pre .2) known)
 
-  abbrev start : tie.Start Inv-loop μ-loop
-  start = turn .before .before
+remaining-requires : tie.Need-remaining-requires
+remaining-requires c κs = search needs
 
-  largest : Largest (between (turn .loop .start) (start .args .last)) (c .cap .result)
-  largest = step.by-room (turn .loop .inv .1) (c .before .remaining .ensures) (c .cap .ensures .1)
+cap-requires : tie.Need-cap-requires
+cap-requires c κs = search needs
 
-  known : walked (turn .loop .start) (start .args .last)
-      ≡ prefix (numberOf (turn .loop .start)) (c .cap .result) ∷ prefixesOf 128 (from-to (numberOf (turn .loop .start) + 2 ^ (c .cap .result)) (numberOf (start .args .last)))
-  known = first-prefix 128 (between (turn .loop .start) (start .args .last)) (c .cap .result) (below start) largest
-
-  inside : turn .loop .at + (start .args .width + 1) ≤ length (turn .loop .out)
-  inside = entry-inside (turn .loop .inv .2) (start .pre .2) known
-
-  fits : turn .loop .at + (start .args .width + 1) < 18446744073709551616
-  fits = omega (arith, inside, kept-length (turn .loop .inv .2) (start .pre .2), start .good)
-
-sub-put-entry : tie.Need-sub-put-entry Inv-loop μ-loop
-sub-put-entry c = omega (arith, inside c)
-
-part-put-entry-start : tie.Need-part-put-entry-start Inv-loop μ-loop
-part-put-entry-start c = omega (arith, inside c)
-
-part-put-entry-end : tie.Need-part-put-entry-end Inv-loop μ-loop
-part-put-entry-end c = search needs
-
-put-entry-requires : tie.Need-put-entry-requires Inv-loop μ-loop
+put-entry-requires : tie.Need-put-entry-requires
 put-entry-requires c κs =
-    let capped = c .before in
-    let o = start capped .pre .0 in
-    let loop = turn capped .loop in (
-      entry-fits (start capped .args .width) (o .wide) (loop .inv .0) (o .below) (largest capped),
-      omega (arith, inside capped, rest-length (loop .out) (loop .at)),
-    )
+    let o = start (c .before) .pre .0 in
+    (entry-fits (start (c .before) .args .width) (o .wide) (o .forward) (o .below) (largest (c .before)), roomy (c .before))
 
-add-n : tie.Need-add-n Inv-loop μ-loop
-add-n c =
-    let capped = c .before .before .before .before in
-    let s = start capped in
-    omega (arith, few-entered (turn capped .loop .inv .2) (s .pre .2) (known capped), at-most-254 (between (s .args .first) (s .args .last)) (below s))
-
-last-of-requires : tie.Need-last-of-requires Inv-loop μ-loop
+last-of-requires : tie.Need-last-of-requires
 last-of-requires c κs =
     let capped = c .before .before .before .before in
-    let l = largest capped in
-    (capped .cap .ensures .0, l .zeros, walk.ends-inside 128 (below (start capped)) l)
+    (capped .cap .ensures .0, largest capped .zeros, walk.ends-inside 128 (below (start capped)) (largest capped))
 
-words-at-most-requires : tie.Need-words-at-most-requires Inv-loop μ-loop
-words-at-most-requires c κs = tt
+words-at-most-requires : tie.Need-words-at-most-requires
+words-at-most-requires c κs = search needs
 
-same-length : tie.Need-same-length Inv-loop μ-loop
-same-length c =
-    let capped = c .before .before .before .before .before .before .before in
-    kept-length (entered (turn capped .loop .inv .2) (start capped .pre .2) (known capped) (c .before .before .before .before .before .put-entry .ensures)) (start capped .pre .2)
+same-length : tie.Need-same-length
+same-length c = search needs
 
-returns : tie.Need-returns Inv-loop μ-loop
+returns : tie.Need-returns
 returns c =
     let end = c .before .before in
     let capped = end .before .before .before .before .before in
     let last = leb-true _ _ (sym (c .before .words-at-most .ensures) ∙ c .if1 .taken) in
     let one = walk.last-one 128 (below (start capped)) (largest capped) (end .last-of .ensures) last in
-    all-entered (entered (turn capped .loop .inv .2) (start capped .pre .2) one (end .before .before .before .put-entry .ensures))
+    rw one (all-entered (one-entered (end .before .before .before .put-entry .ensures)))
 
--- the prefix at the start ends before the range does
-not-yet : (c : tie.Else1 Inv-loop μ-loop) → numberOf (c .before .before .last-of .result) < numberOf (start (c .before .before .before .before .before .before .before) .args .last)
+-- it ends before the range does
+not-yet : (c : tie.Else1) → numberOf (c .before .before .last-of .result) < numberOf (start (c .before .before .before .before .before .before .before) .args .last)
 not-yet c = leb-false _ _ (sym (c .before .words-at-most .ensures) ∙ c .if1 .left)
 
-after-requires : tie.Need-after-requires Inv-loop μ-loop
+remaining-requires-2 : tie.Need-remaining-requires-2
+remaining-requires-2 c κs = search needs
+
+after-requires : tie.Need-after-requires
 after-requires c κs =
-    let capped = c .before .before .before .before .before .before .before in
-    (largest capped .zeros, walk.not-all 128 (below (start capped)) (largest capped) (c .before .before .last-of .ensures) (not-yet c))
+    let capped = c .before .before .before .before .before .before .before .before in
+    (largest capped .zeros, walk.not-all 128 (below (start capped)) (largest capped) (c .before .before .before .last-of .ensures) (not-yet (c .before)))
 
-module _ (c : tie.After-after Inv-loop μ-loop) where
-  abbrev at-cap : tie.After-cap Inv-loop μ-loop
-  at-cap = c .before .before .before .before .before .before .before .before
+-- the others
+module _ (c : tie.After-after) where
+  abbrev capped : tie.After-cap
+  capped = c .before .before .before .before .before .before .before .before .before
 
-  more : walked (turn at-cap .loop .start) (start at-cap .args .last)
-      ≡ prefix (numberOf (turn at-cap .loop .start)) (at-cap .cap .result) ∷ walked (c .after .result) (start at-cap .args .last)
-  more = walk.one-more 128 (below (start at-cap)) (largest at-cap) (c .after .ensures)
+  abbrev end : tie.After-last-of
+  end = c .before .before .before .before
 
-  forward : numberOf (c .after .result) ≤ numberOf (start at-cap .args .last)
-  forward = walk.inside 128 (below (start at-cap)) (largest at-cap) (c .before .before .before .last-of .ensures) (not-yet (c .before)) (c .after .ensures)
+  more : walked (start capped .args .first) (start capped .args .last)
+      ≡ prefix (numberOf (start capped .args .first)) (capped .cap .result) ∷ fallen (c .after .result) (c .before .remaining2 .result)
+  more =
+      let e = same-last _ _ _ _ _ (end .last-of .ensures) (c .after .ensures) (c .before .remaining2 .ensures) in
+      walk.one-more 128 (below (start capped)) (largest capped) (c .after .ensures) ∙ rw e
 
-add-at : tie.Need-add-at Inv-loop μ-loop
-add-at c = omega (arith, fits (at-cap c))
+  first-entered : Entered (start capped .args .width) (walked (start capped .args .first) (start capped .args .last)) (fallen (c .after .result) (c .before .remaining2 .result)) (now (start capped .args .out)) (c .before .before .before .before .before .before .before .put-entry .last .1 .1 .1 .0) (start capped .args .width + 1) 1
+  first-entered = rw more (one-entered (c .before .before .before .before .before .before .before .put-entry .ensures))
 
-add-at-2 : tie.Need-add-at-2 Inv-loop μ-loop
-add-at-2 c = omega (arith, fits (at-cap c))
+  falling : Falling (start capped .args .width) (c .after .result) (c .before .remaining2 .result)
+  falling = record {
+    wide = start capped .pre .0 .wide;
+    positive = positive-after _ _ _ (end .last-of .ensures) (c .after .ensures);
+    below = below-after _ _ _ _ _ (end .last-of .ensures) (c .after .ensures) (c .before .remaining2 .ensures) (start capped .pre .0 .below);
+    bits = capped .cap .result;
+    zeros = rw (c .after .ensures) (to-remainder (capped .cap .result) (sum (of-remainder _ (capped .cap .result) (largest capped .zeros)) (itself (2 ^ (capped .cap .result)))));
+    few = few-after _ _ _ _ _ (capped .cap .result) (end .last-of .ensures) (c .before .remaining2 .ensures) (capped .before .remaining .ensures) (capped .cap .ensures .1 .to);
+  }
 
-loop-less : tie.Need-loop-less Inv-loop μ-loop
-loop-less c = walk.falls 128 (below (start (at-cap c))) (largest (at-cap c)) (c .after .ensures) (forward c)
+add-fall : tie.Need-add-fall
+add-fall c = omega (arith, roomy (capped c), start (capped c) .good)
 
-loop-again : tie.Need-loop-again Inv-loop μ-loop
-loop-again c =
-    let loop = turn (at-cap c) .loop in (
-      forward c,
-      step.still (loop .inv .1) (at-cap c .before .remaining .ensures) (at-cap c .cap .ensures .1) (c .after .ensures),
-      entered (loop .inv .2) (start (at-cap c) .pre .2) (more c) (c .before .before .before .before .before .before .put-entry .ensures),
-    )
+sub-fall : tie.Need-sub-fall
+sub-fall c = omega (arith, roomy (capped c), kept-length (first-entered c) (start (capped c) .pre .2))
+
+part-fall-start : tie.Need-part-fall-start
+part-fall-start c = omega (arith, roomy (capped c), kept-length (first-entered c) (start (capped c) .pre .2))
+
+part-fall-end : tie.Need-part-fall-end
+part-fall-end c = search needs
+
+fall-requires : tie.Need-fall-requires
+fall-requires c κs =
+    let next = c .before in
+    (falling next, omega (arith, rest-inside (first-entered next) (start (capped next) .pre .2), rest-length (next .before .before .before .before .before .before .before .put-entry .last .1 .1 .1 .0) (start (capped next) .args .width + 1)))
+
+add-result : tie.Need-add-result
+add-result c =
+    let next = c .before .before .before .before in
+    let all = both-listed (first-entered next) (c .before .before .fall .ensures) in
+    let o = start (capped next) .pre .0 in
+    omega (arith, all .counted, few o, at-most-sixteen (o .wide))
+
+same-length-2 : tie.Need-same-length-2
+same-length-2 c = search needs
+
+returns-2 : tie.Need-returns-2
+returns-2 c = both-listed (first-entered (c .before .before .before .before)) (c .before .before .fall .ensures)
 
 pub descend-spec : {M : Type 1} → statement M
 descend-spec =
     tie.close
     (tie.spec
-    Inv-loop
-    μ-loop
-    loop-holds
     remaining-requires
     cap-requires
-    sub-put-entry
-    part-put-entry-start
-    part-put-entry-end
     put-entry-requires
-    add-n
     last-of-requires
     words-at-most-requires
     same-length
     returns
+    remaining-requires-2
     after-requires
-    add-at
-    add-at-2
-    loop-less
-    loop-again)
+    add-fall
+    sub-fall
+    part-fall-start
+    part-fall-end
+    fall-requires
+    add-result
+    same-length-2
+    returns-2)

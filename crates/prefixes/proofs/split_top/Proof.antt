@@ -1,0 +1,59 @@
+-- The highest bit of the low word, or of the high one.
+use Prim.Native.Nat.{_<_}
+use native.Mathlib.Omega.{arith}
+use Rattle.cidr.proofs.Step.{top-high}
+use Rattle.prefixes.proofs.Tops.{low-some, low-word, low-split, high-split}
+use borrow.Author.Needs.{needs}
+use Rattle.prefixes.proofs.split_top.Statement.{statement}
+use Rattle.prefixes.proofs.split_top.Tie as tie
+
+low-below : (c : tie.Start) → c .args .n .low < 18446744073709551616
+low-below c = search needs
+
+top-bit-requires : tie.Need-top-bit-requires
+top-bit-requires c κs = low-some _ _ (c .if1 .taken) (c .before .pre)
+
+power-of-two-requires : tie.Need-power-of-two-requires
+power-of-two-requires c κs = search needs
+
+sub-below : tie.Need-sub-below
+sub-below c = search needs
+
+returns : tie.Need-returns
+returns c =
+    let start = c .before .before .before in
+    let t = c .before .top-bit .ensures .1 in
+    let e = low-word (start .args .n .high) (start .args .n .low) (c .before .before .if1 .taken) in
+    (rw e t, low-split (start .args .n .high) (start .args .n .low) (c .before .before .if1 .taken) (c .power-of-two .ensures .0) t)
+
+top-bit-requires-2 : tie.Need-top-bit-requires-2
+top-bit-requires-2 c κs = omega (arith, c .if1 .left)
+
+power-of-two-requires-2 : tie.Need-power-of-two-requires-2
+power-of-two-requires-2 c κs = search needs
+
+sub-above : tie.Need-sub-above
+sub-above c = search needs
+
+add-free : tie.Need-add-free
+add-free c = search needs
+
+returns-2 : tie.Need-returns-2
+returns-2 c =
+    let start = c .before .before .before in
+    let t = c .before .top-bit2 .ensures .1 in
+    (top-high 64 t (low-below start), high-split 64 (start .args .n .high) (start .args .n .low) (c .power-of-two2 .ensures .0) t)
+
+pub split-top-spec : {M : Type 1} → statement M
+split-top-spec =
+    tie.close
+    (tie.spec
+    top-bit-requires
+    power-of-two-requires
+    sub-below
+    returns
+    top-bit-requires-2
+    power-of-two-requires-2
+    sub-above
+    add-free
+    returns-2)
