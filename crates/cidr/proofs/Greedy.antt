@@ -1,12 +1,10 @@
 -- The halving takes the largest prefix at the start of the range first; the rest are the prefixes of the rest of the range.
 use Prim.Native.Nat.{ℕ, zero, suc, _+_, _-_, _^_, _≤_, _<_}
-use mathlib.Core.Bool.{Bool, true, false, cond, _&&_}
-use mathlib.Core.Path.{_≡_, refl, sym, ap, _∙_}
+use mathlib.Core.Path.{_≡_, sym, ap, _∙_}
 use mathlib.Core.List.{List, [], _∷_, _++_, append-nil}
 use native.Mathlib.Omega.{arith}
 use native.Mathlib.Decide.{decLe, decLt}
-use borrow.Author.Tests.{le-leb, leb-true, leb-false}
-use lib.Dec.{leb}
+use borrow.Author.Tests.{le-leb}
 use lib.Pow.{pow-pos, pow-mono}
 use Rattle.address.specs.Ranges.{Range, covers, overlaps}
 use Rattle.cidr.specs.Prefixes.{Prefix, prefix, from-to, addresses, halved, prefixesOf}

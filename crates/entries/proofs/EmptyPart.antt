@@ -6,7 +6,7 @@ use mathlib.Core.Path.{_≡_, refl, sym, ap, _∙_}
 use mathlib.Core.List.{List, []}
 use native.Mathlib.Decide.{decLt}
 use native.Mathlib.Omega.{arith}
-use lib.Dec.{T, eqb, leb}
+use lib.Dec.{eqb, leb}
 use lib.ListN.{length, take, drop, drop-of-length-le}
 use lib.Seq.{slice-empty}
 use Rattle.address.specs.Lists.{within, every, any}
@@ -16,10 +16,10 @@ use Rattle.pieces.specs.Split.{split}
 use Rattle.pieces.proofs.Tests.{and-left, and-right, within-high}
 use Rattle.name.specs.Host.{isLabel, isHostName}
 use Rattle.name.specs.Texts.{goodText, goodHost}
-use Rattle.records.specs.Record.{Record, isBlock, widthOf, rangeOf, goodName, goodTexts, goodContents}
+use Rattle.records.specs.Record.{isBlock, widthOf, rangeOf, goodName, goodTexts, goodContents}
 use Rattle.records.specs.Place.{rangeSpan}
 use Rattle.image.specs.Image.{imageOf}
-use Rattle.image.specs.Part.{recordsOf, contentsOf, contentsOfFirst, excerptOf, has, EmptyPart}
+use Rattle.image.specs.Part.{recordsOf, contentsOf, excerptOf, has, EmptyPart}
 use Rattle.image.specs.Entries.{contentsSpan}
 use Rattle.image.specs.Index.{tagOf, Standing}
 use Rattle.image.specs.declared.Which.{Which}

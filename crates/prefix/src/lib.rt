@@ -1,6 +1,6 @@
 // The range of a prefix, at every width up to sixteen bytes.
 ghost use mathlib.Core.Path.{_≡_};
-ghost use Prim.Native.Nat.{_^_, _≤_, _<_, min};
+ghost use Prim.Native.Nat.{_≤_, _<_, min};
 ghost use Rattle.address.specs.Lists.{found};
 ghost use Rattle.address.specs.Address.{number, numbers};
 ghost use Rattle.prefix.specs.Prefix.{prefixRange};

@@ -1,11 +1,10 @@
 // A range of addresses as prefixes (S2.6). The zero bits at the low end of the first address that is left decide the next one, capped by what
 // remains.
 ghost use mathlib.Core.Path.{_≡_};
-ghost use mathlib.Core.List.{_++_};
 ghost use Prim.Native.Nat.{suc, _+_, _-_, _*_, _^_, _%_, _≤_, _<_};
 ghost use lib.Count.{trailingZeros};
 ghost use lib.Dec.{eqb};
-ghost use lib.ListN.{length, getD, take, drop};
+ghost use lib.ListN.{length, getD, take};
 ghost use Rattle.address.specs.Positions.{Wide};
 ghost use Rattle.address.specs.Words.{numberOf};
 ghost use Rattle.listing.specs.Writing.{Written};
@@ -385,9 +384,9 @@ fn listed(range: &[u8], width: usize, out: &mut [u8]) -> Prefixed
         };
     }
     match check_room(first, last, width, out.len()) {
-        Fit::Short(n) => Prefixed {
+        Fit::Short(needed) => Prefixed {
             reason: 9,
-            count: n,
+            count: needed,
         },
         Fit::Enough => Prefixed {
             reason: 0,

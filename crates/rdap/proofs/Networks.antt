@@ -1,22 +1,21 @@
 -- The range of an IP network is one of 8 or 32 bytes, by its tag, and its first is not above its last.
 use Prim.Native.Nat.{ℕ, _<_}
 use mathlib.Core.Option.{some}
-use mathlib.Core.Path.{_≡_, sym, ap, subst, _∙_}
-use mathlib.Core.List.{List, _∷_}
+use mathlib.Core.Path.{_≡_, sym, ap, _∙_}
+use mathlib.Core.List.{List}
 use native.Mathlib.Omega.{arith}
 use lib.Dec.{leb, leb→le, T}
-use lib.ListN.{length, drop, length-drop}
-use Rattle.address.specs.Lists.{_∈_, within}
+use lib.ListN.{length, length-drop}
+use Rattle.address.specs.Lists.{within}
 use Rattle.address.proofs.Tests.{T-and}
 use Rattle.records.specs.Record.{Record, widthOf, rangeOf}
 use Rattle.records.proofs.Accepted.{first-last}
-use Rattle.image.specs.Image.{imageOf, sound}
-use Rattle.image.specs.Part.{recordsOf, excerptOf}
+use Rattle.image.specs.Image.{imageOf}
+use Rattle.image.specs.Part.{recordsOf}
 use Rattle.image.specs.Index.{tagOf, Standing}
 use Rattle.image.specs.declared.Which.the-variants.{Range}
 use Rattle.image.proofs.Addresses.{wide-family}
 use Rattle.entries.proofs.Standing.{standing, range-length}
-use Rattle.blocks.specs.Blocks.{Block, blocksOf}
 use Rattle.blocks.proofs.Families.{BlockRecord, block-record}
 use Rattle.prefixes.specs.Call.{ipRangeOf}
 use Rattle.prefixes.proofs.Answers.{a-network}

@@ -1,7 +1,7 @@
 -- The loop's invariant: the bits that are left decide (Falling), the first entries are written (Entered), and the others are those of what is left.
 use Prim.Native.Nat.{ℕ, _+_, _-_, _^_, _≤_, _<_}
 use mathlib.Core.Path.{_≡_, sym, subst, _∙_}
-use mathlib.Core.List.{List, [], _∷_}
+use mathlib.Core.List.{List, _∷_}
 use native.Mathlib.Omega.{arith}
 use borrow.Author.Tests.{eqb-true, eqb-false, not-true, not-false}
 use lib.ListN.{length}
@@ -11,7 +11,6 @@ use Rattle.address.specs.Words.{numberOf}
 use Rattle.listing.proofs.Writing.{rest-length}
 use Rattle.cidr.specs.Prefixes.{Prefix, prefix, from-to, prefixesOf}
 use Rattle.cidr.proofs.Greedy.{first-prefix}
-use Rattle.cidr.proofs.Theorem.{at-most-254}
 use Rattle.prefixes.specs.Entries.{fallen, Falling, Entered}
 use Rattle.prefixes.proofs.Falling as falling
 use Rattle.prefixes.proofs.Writing.{nothing-entered, kept-length, entry-inside, few-entered, entered, all-entered}

@@ -4,7 +4,6 @@ use mathlib.Core.Path.{_≡_, sym, ap}
 use native.Mathlib.Omega.{arith}
 use borrow.Author.Tests.{ne-eqb}
 use lib.Dec.{eqb}
-use borrow.Author.Needs.{needs}
 use Rattle.prefixes.proofs.is_zero.Statement.{statement}
 use Rattle.prefixes.proofs.is_zero.Tie as tie
 

@@ -51,8 +51,8 @@ forward c = in-order (c .before .before) (leb-true _ _ (sym (c .before .words-at
 check-room-requires : tie.Need-check-room-requires
 check-room-requires c κs = forward c
 
-enum-known-n : tie.Need-enum-known-n
-enum-known-n c = search needs
+enum-known-needed : tie.Need-enum-known-needed
+enum-known-needed c = search needs
 
 enum-told : tie.Need-enum-told
 enum-told c = search needs
@@ -66,7 +66,7 @@ returns-2 : tie.Need-returns-2
 returns-2 c =
     let room = c .before .before .before in
     let read = room .before .before .before in
-    let told = told-short _ _ _ (sym (c .before .n .given .1) ∙ room .check-room .ensures) in
+    let told = told-short _ _ _ (sym (c .before .needed .given .1) ∙ room .check-room .ensures) in
     full (now (start read .args .range)) (start read .args .width) (start read .pre .1) (first read) (last read) (read .before .words-at .ensures) (read .words-at2 .ensures)
     _ (forward (room .before)) (told .0) (told .1)
 
@@ -90,7 +90,7 @@ listed-spec =
     words-at-most-requires
     returns
     check-room-requires
-    enum-known-n
+    enum-known-needed
     enum-told
     write-requires
     returns-2

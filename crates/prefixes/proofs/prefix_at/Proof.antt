@@ -1,5 +1,5 @@
 -- The zeros decide where their prefix ends inside the range, and else what remains.
-use Prim.Native.Nat.{suc, _^_, _<_}
+use Prim.Native.Nat.{_^_, _<_}
 use mathlib.Core.Path.{sym, _∙_}
 use native.Mathlib.Nat.{le-of-lt}
 use borrow.Author.Tests.{leb-true, leb-false}

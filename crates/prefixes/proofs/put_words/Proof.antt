@@ -1,7 +1,6 @@
 -- The loop's invariant: the first i words are written.
 use Prim.Native.Nat.{suc, _+_, _-_, _*_, _≤_}
-use mathlib.Core.Path.{_≡_, ap, subst, _∙_}
-use mathlib.Core.List.{List}
+use mathlib.Core.Path.{_≡_}
 use native.Mathlib.Numerals.{add-one}
 use native.Mathlib.Omega.{arith}
 use lib.ListN.{length, take}
