@@ -73,10 +73,6 @@ module _ {s d e cap : ℕ} (c : Capped (from-to s e)) (sum-is : s + d ≡ e) (ro
     next = λ m g. omega (arith, g, room .to);
   }
 
-  -- and after that prefix too
-  pub still : {n : ℕ} → n ≡ s + 2 ^ cap → Capped (from-to n e)
-  still h = record { bits = cap; zeros = rw h (to-remainder cap (sum multiple (itself (2 ^ cap)))); ends = omega (arith, h, room .to) }
-
 -- The first prefix of a range, and the rest: the trailing zeros of its start, capped by the highest bit of how many addresses it has.
 pub zeros-capped : (w : ℕ) (r : Range) (cap : ℕ) → r .first ≤ r .last → r .last < 2 ^ w → Top (suc (r .last - r .first)) cap
     → prefixesOf w r ≡ prefix (r .first) (min (trailingZeros w (r .first)) cap) ∷ prefixesOf w (from-to (r .first + 2 ^ min (trailingZeros w (r .first)) cap) (r .last))

@@ -16,7 +16,7 @@ pub const MOST_PATHS: usize = 64;
 /// "At most 262,144 bytes and 4,096 records."
 pub const LONGEST_IMAGE: usize = 262_144;
 pub const MOST_RECORDS: usize = 4096;
-/// "IPv4 never needs more than 62 prefixes, IPv6 never more than 254."
+/// "IPv4 never needs more than 62 prefixes [...], IPv6 never more than 254"
 pub const MOST_PREFIXES: usize = 254;
 /// "It starts with the bytes 01 00 01 01 (edition 1)."
 pub const START: [u8; 4] = [0x01, 0x00, 0x01, 0x01];
@@ -148,8 +148,8 @@ impl Reply {
     }
 }
 
-/// What the call on a range returns beside the entries: "New calls that take no
-/// path give a reason without a status."
+/// What the call on a range returns beside the entries: "Since the call takes no
+/// path it gives a reason without a status, and a count".
 #[derive(Clone, Copy, Debug, PartialEq, Eq)]
 pub struct Prefixed {
     pub reason: u32,
@@ -215,8 +215,8 @@ pub fn name(image: &[u8], record: u32) -> &[u8] {
     within(image, name_part(&check(image), record))
 }
 
-/// Field 20 of a block, "as a part of the image, empty if the image is defective
-/// or the record is no block".
+/// Field 20 of a block: "The part is empty exactly if the image is defective,
+/// there is no such record, or it is no block."
 pub fn range(image: &[u8], record: u32) -> &[u8] {
     within(image, range_part(&check(image), record))
 }
@@ -225,29 +225,29 @@ fn within(image: &[u8], part: (u32, u32)) -> &[u8] {
     &image[part.0 as usize..][..part.1 as usize]
 }
 
-/// "For any first and last of one IP family with first not above last, list the
-/// prefixes in ascending order that together hold exactly that range, and no
-/// shorter list does." `range` is the contents of a field 20.
+/// "It lists the prefixes [...] that together hold exactly the addresses from
+/// first to last, in ascending order, and no shorter list does."
 pub fn prefixes(range: &[u8], out: &mut [u8]) -> Prefixed {
     let address = match range.len() {
         8 => 4,
         32 => 16,
         _ => return Prefixed::refused(),
     };
-    // "First above last is reason 6"
+    // "6, with count 0, if the range has neither 8 nor 32 bytes or first is above
+    // last"
     let range = range_of(range);
     if range.first > range.last {
         return Prefixed::refused();
     }
-    // "An entry is the address in 4 or 16 bytes, then its length in one."
+    // "An entry is the address in 4 or 16 bytes, then the prefix length in one."
     let listed = prefixes_of(range, 8 * address as u128);
     let mut entries = Vec::new();
     for (first, length) in &listed {
         entries.extend(&first.to_be_bytes()[16 - address..]);
         entries.push(*length as u8);
     }
-    // "too little room is reason 9 with the number of prefixes needed, both
-    // leaving the list unchanged"
+    // "9, with the number of prefixes needed as count, if the buffer has fewer
+    // bytes than the entries"
     let fits = entries.len() <= out.len();
     if fits {
         out[..entries.len()].copy_from_slice(&entries);
