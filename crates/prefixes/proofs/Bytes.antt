@@ -9,7 +9,7 @@ use Rattle.address.specs.Number.{value, valueFrom}
 use Rattle.address.proofs.Digits.{append-from}
 use Rattle.prefixes.specs.Call.{bigEndian}
 use Rattle.prefixes.specs.Answers.{BytesReadBack}
-use Rattle.prefixes.specs.Entries.{bytesOf}
+use Rattle.prefixes.specs.Entries.{wordBytes}
 
 pub length-bytes : (n v : ℕ) → length (bigEndian n v) ≡ n
 unfolding bigEndian
@@ -37,17 +37,17 @@ pub low-word : (h l : ℕ) → h * 18446744073709551616 + l < 4294967296 → h *
 low-word h l b = omega (arith, b)
 
 -- of a number of two words
-pub two-words : (h l : ℕ) → l < 18446744073709551616 → bytesOf (h ∷ l ∷ []) ≡ bigEndian 16 (h * 18446744073709551616 + l)
-unfolding bytesOf
+pub two-words : (h l : ℕ) → l < 18446744073709551616 → wordBytes (h ∷ l ∷ []) ≡ bigEndian 16 (h * 18446744073709551616 + l)
+unfolding wordBytes
 two-words h l b = rw (append-nil (bigEndian 8 l)) (sym (bytes-joined 8 8 h l b))
 
 -- one word more
-pub word-more : (words : List ℕ) (i : ℕ) → i < length words → bytesOf (take (suc i) words) ≡ bytesOf (take i words) ++ bigEndian 8 (getD words i 0)
-unfolding bytesOf
+pub word-more : (words : List ℕ) (i : ℕ) → i < length words → wordBytes (take (suc i) words) ≡ wordBytes (take i words) ++ bigEndian 8 (getD words i 0)
+unfolding wordBytes
 word-more [] i h = absurd (omega (arith, h))
 word-more (w ∷ words) zero h = append-nil (bigEndian 8 w)
 word-more (w ∷ words) (suc i) h =
-    rw (word-more words i (omega arith)) (sym (append-assoc (bigEndian 8 w) (bytesOf (take i words)) (bigEndian 8 (getD words i 0))))
+    rw (word-more words i (omega arith)) (sym (append-assoc (bigEndian 8 w) (wordBytes (take i words)) (bigEndian 8 (getD words i 0))))
 
 -- of a word in two halves
 pub two-halves : (v : ℕ) → bigEndian 8 v ≡ bigEndian 4 (v / 4294967296) ++ bigEndian 4 (v % 4294967296)

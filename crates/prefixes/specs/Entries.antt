@@ -34,9 +34,9 @@ abbrev pub wordsOf : Words → List ℕ
 wordsOf a = a .high ∷ a .low ∷ []
 
 -- words, one after another, in eight bytes each
-unfoldable pub bytesOf : List ℕ → List ℕ
-bytesOf [] = []
-bytesOf (w ∷ words) = bigEndian 8 w ++ bytesOf words
+unfoldable pub wordBytes : List ℕ → List ℕ
+wordBytes [] = []
+wordBytes (w ∷ words) = bigEndian 8 w ++ wordBytes words
 
 -- a prefix whose address has so many bytes
 pub record EntryFits (width first free : ℕ) : Type 0 where

@@ -11,7 +11,7 @@ ghost use Rattle.listing.specs.Writing.{Written};
 ghost use Rattle.cidr.specs.Prefixes.{prefix};
 ghost use Rattle.cidr.specs.First.{Largest, Capped, Top};
 ghost use Rattle.prefixes.specs.Call.{bigEndian, entryOf, entriesOf, ipRange, ipRangeOf, prefixedOf, bufferAfter};
-ghost use Rattle.prefixes.specs.Entries.{between, walked, Ordered, wordsOf, bytesOf, EntryFits, Listed, Climbed, fallen, Falling, fitOf};
+ghost use Rattle.prefixes.specs.Entries.{between, walked, Ordered, wordsOf, wordBytes, EntryFits, Listed, Climbed, fallen, Falling, fitOf};
 use address::Words;
 use address::power_of_two;
 use address::words_at;
@@ -248,7 +248,7 @@ fn word(a: Words, i: usize) -> u64
 // So many words. In a loop, since the compiler makes one store of eight bytes that are written in a row, but none of sixteen.
 fn put_words(a: Words, n: usize, out: &mut [u8])
     requires { ⌜ (n ≤ 2) × (8 * n ≤ length (now out)) ⌝ }
-    ensures { λ _. ⌜ Written (bytesOf (take n (wordsOf a))) (now (out .entry)) (now (out .exit)) (8 * n) ⌝ }
+    ensures { λ _. ⌜ Written (wordBytes (take n (wordsOf a))) (now (out .entry)) (now (out .exit)) (8 * n) ⌝ }
 {
     let mut i: usize = 0;
     while i < n {

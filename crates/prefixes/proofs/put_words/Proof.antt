@@ -7,20 +7,20 @@ use lib.ListN.{length, take}
 use denote.Ref.{now}
 use Rattle.listing.specs.Writing.{Written}
 use Rattle.listing.proofs.Writing.{written-nothing, written-length, written-both, rest-length}
-use Rattle.prefixes.specs.Entries.{wordsOf, bytesOf}
+use Rattle.prefixes.specs.Entries.{wordsOf, wordBytes}
 use Rattle.prefixes.proofs.Bytes.{word-more}
 use borrow.Author.Needs.{needs}
 use Rattle.prefixes.proofs.put_words.Statement.{statement}
 use Rattle.prefixes.proofs.put_words.Tie as tie
 
 abbrev Inv-loop : tie.InvT-loop
-Inv-loop a n out₀ i₀ out i = (i ≤ n) × Written (bytesOf (take i (wordsOf a))) out₀ out (8 * i)
+Inv-loop a n out₀ i₀ out i = (i ≤ n) × Written (wordBytes (take i (wordsOf a))) out₀ out (8 * i)
 
 abbrev μ-loop : tie.MeasureT-loop
 μ-loop a n out₀ i₀ out i = n - i
 
 loop-holds : tie.Need-loop-holds Inv-loop μ-loop
-unfolding bytesOf
+unfolding wordBytes
 loop-holds c = (omega arith, written-nothing _)
 
 -- what is written, and room for what is left
