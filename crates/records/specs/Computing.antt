@@ -4,8 +4,8 @@ use Rattle.name.specs.Computing as Name
 use Rattle.fields.specs.Computing as Fields
 use Rattle.records.specs.Record.{recordOf, goodName, goodContents, sortedAfter, follows, crossesBlock}
 use Rattle.records.specs.Judge.{inOrder, crossesAny, judgeAlone}
-use Rattle.records.specs.Place.{handleSpan, nameSpan}
+use Rattle.records.specs.Place.{rangeSpan, handleSpan, nameSpan}
 
 unfoldable pub computing : Unit {0}
-unfolding Address.computing Name.computing Fields.computing recordOf goodName goodContents sortedAfter follows crossesBlock inOrder crossesAny judgeAlone handleSpan nameSpan
+unfolding Address.computing Name.computing Fields.computing recordOf goodName goodContents sortedAfter follows crossesBlock inOrder crossesAny judgeAlone rangeSpan handleSpan nameSpan
 computing = tt
