@@ -7,7 +7,7 @@ use Rattle.records.specs.Record.{Record}
 use Rattle.image.specs.Image.{sound, defective, imageOf}
 use Rattle.image.specs.Entries.{spanOf}
 use Rattle.image.specs.Computing.{computing}
-use Rattle.image.specs.declared.Which.the-variants.{Name}
+use Rattle.image.specs.declared.Which.the-variants.{Range, Name}
 
 -- one AS block, 12 to 15, handle A, name B, active
 abbrev pub example : List ℕ
@@ -23,10 +23,10 @@ accepted : imageOf example ≡ sound (block ∷ [])
 unfolding computing
 accepted = refl
 
--- its name is the byte at 25, and there is no record 1
-spans : (spanOf example 0 Name ≡ record { start = 25; end = 26 }) × (spanOf example 1 Name ≡ record { start = 0; end = 0 })
+-- its range is the eight bytes at 10, its name the byte at 25, and there is no record 1
+spans : (spanOf example 0 Range ≡ record { start = 10; end = 18 }) × (spanOf example 0 Name ≡ record { start = 25; end = 26 }) × (spanOf example 1 Name ≡ record { start = 0; end = 0 })
 unfolding computing
-spans = (refl, refl)
+spans = (refl, refl, refl)
 
 -- a second copy of the record, with another byte at a place
 abbrev twice : ℕ → ℕ → List ℕ
