@@ -21,7 +21,7 @@ use Rattle.image.specs.Image.{Image, sound, defective, nextOf, afterJudged, aft
 use Rattle.image.specs.Part.{recordsOf}
 use Rattle.image.specs.Entries.{placeOf}
 use Rattle.image.proofs.Walk.{start-length}
-use Rattle.image.proofs.Soundness.{not-sound}
+use Rattle.image.proofs.Soundness.{not-sound, opens}
 
 -- what a sound image has at a position where records are still to come
 pub record Ahead (n : ℕ) (earlier : List Record) (l : List ℕ) (records : List Record) : Type 0 where
@@ -123,15 +123,9 @@ is-sound (sound records) n h = refl
 is-sound (defective d p) n h = absurd (omega (arith, h))
 
 sound-start : (s : List ℕ) (records : List Record) → imageOf s ≡ sound records → (4 ≤ length s) × (imageFrom 4096 [] (drop 4 s) ≡ imageOf s)
-unfolding imageOf
-sound-start s records e = by-tests (leb (length s) 262144) (startsRight s) refl refl e
-  where
-    by-tests : (t u : Bool) → leb (length s) 262144 ≡ t → startsRight s ≡ u
-        → cond t (cond u (imageFrom 4096 [] (drop 4 s)) (defective 2 0)) (defective 1 0) ≡ sound records
-        → (4 ≤ length s) × (imageFrom 4096 [] (drop 4 s) ≡ imageOf s)
-    by-tests true true x y z = (start-length s y, rw (x, y))
-    by-tests true false x y z = absurd (not-sound _ _ records z)
-    by-tests false u x y z = absurd (not-sound _ _ records z)
+sound-start s records e =
+    let o = opens s records e in
+    (start-length s (o .started), o .read ∙ sym e)
 
 module _ (s : List ℕ) (n : ℕ) (h : n < length (recordsOf (imageOf s))) where
   whole-image : imageOf s ≡ sound (recordsOf (imageOf s))

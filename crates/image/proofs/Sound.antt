@@ -10,7 +10,8 @@ use Rattle.fields.specs.Field.{Head, field, short, headOf}
 use Rattle.records.specs.Record.{Record, goodContents}
 use Rattle.records.specs.Judge.{Judged, bad, good, inOrder, crossesAny, judgeAlone, judge}
 use Rattle.records.proofs.Accepted.{alone-good, overlap-good}
-use Rattle.image.specs.Image.{Next, refused, taken, afterJudged, nextOf, afterNext, sound, defective, imageFrom, startsRight, imageOf}
+use Rattle.image.specs.Image.{Next, refused, taken, afterJudged, nextOf, afterNext, sound, imageFrom, imageOf}
+use Rattle.image.proofs.Soundness.{opens}
 
 -- a record without defects 5, 6 and 7 after the earlier ones, the latest first
 pub record Accepted (earlier : List Record) (r : Record) : Type 0 where
@@ -59,13 +60,6 @@ rest-of (suc n) earlier (b ∷ bs) records e =
         (r ∷ s .0, next (of-head earlier (headOf (b ∷ bs)) r rest p) (s .1), s .2)
 
 pub records-later : (image : List ℕ) (records : List Record) → imageOf image ≡ sound records → Later [] records
-unfolding imageOf
-records-later image records e = by-length (leb (length image) 262144) (startsRight image) e
-  where
-    by-length :
-        (u v : Bool) → cond u (cond v (imageFrom 4096 [] (drop 4 image)) (defective 2 0)) (defective 1 0) ≡ sound records → Later [] records
-    by-length true true k =
-        let s = rest-of 4096 [] (drop 4 image) records k in
-        subst (λ (rs : List Record). Later [] rs) (sym (s .2)) (s .1)
-    by-length true false k = absurd (let z : _≡_ {A = ℕ} 0 1 = cc in omega arith)
-    by-length false v k = absurd (let z : _≡_ {A = ℕ} 0 1 = cc in omega arith)
+records-later image records e =
+    let s = rest-of 4096 [] (drop 4 image) records (opens image records e .read) in
+    subst (λ (rs : List Record). Later [] rs) (sym (s .2)) (s .1)

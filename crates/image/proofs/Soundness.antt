@@ -41,20 +41,28 @@ few-from (suc n) earlier (b ∷ l) records e = by-next (nextOf earlier (headOf (
     by-next (refused d) k onward = absurd (not-sound _ _ records k)
     by-next (taken r rest) k onward = omega (arith, onward r rest k)
 
--- at most 4,096 records and 262,144 bytes
-pub few : (s : List ℕ) (records : List Record) → imageOf s ≡ sound records → (length records ≤ 4096) × (length s ≤ 262144)
+-- the limit of bytes, the start, and what follows it
+pub record Opens (s : List ℕ) (records : List Record) : Type 0 where
+  pub few-bytes : length s ≤ 262144
+  pub started : startsRight s ≡ true
+  pub read : imageFrom 4096 [] (drop 4 s) ≡ sound records
+
+pub opens : (s : List ℕ) (records : List Record) → imageOf s ≡ sound records → Opens s records
 unfolding imageOf
-few s records e = by-tests (leb (length s) 262144) (startsRight s) refl e
+opens s records e = by-tests (leb (length s) 262144) (startsRight s) refl refl e
   where
-    by-tests : (t u : Bool) → leb (length s) 262144 ≡ t
-        → cond t (cond u (imageFrom 4096 [] (drop 4 s)) (defective 2 0)) (defective 1 0) ≡ sound records → (length records ≤ 4096) × (length s ≤ 262144)
-    by-tests true true x k = (omega (arith, few-from 4096 [] (drop 4 s) records k), leb-true _ _ x)
-    by-tests true false x k = absurd (not-sound _ _ records k)
-    by-tests false u x k = absurd (not-sound _ _ records k)
+    by-tests : (t u : Bool) → leb (length s) 262144 ≡ t → startsRight s ≡ u
+        → cond t (cond u (imageFrom 4096 [] (drop 4 s)) (defective 2 0)) (defective 1 0) ≡ sound records → Opens s records
+    by-tests true true x y k = record { few-bytes = leb-true _ _ x; started = y; read = k }
+    by-tests true false x y k = absurd (not-sound _ _ records k)
+    by-tests false u x y k = absurd (not-sound _ _ records k)
 
 module _ (s : List ℕ) (count : ℕ) (e : verdictOf (imageOf s) ≡ Sound count) where
+  opened : Opens s (recordsOf (imageOf s))
+  opened = opens s (recordsOf (imageOf s)) (is-sound (imageOf s) count e)
+
   pub few-records : count ≤ 4096
-  few-records = omega (arith, counted (imageOf s) count e, few s (recordsOf (imageOf s)) (is-sound (imageOf s) count e) .0)
+  few-records = omega (arith, counted (imageOf s) count e, few-from 4096 [] (drop 4 s) (recordsOf (imageOf s)) (opened .read))
 
   pub few-bytes : length s ≤ 262144
-  few-bytes = few s (recordsOf (imageOf s)) (is-sound (imageOf s) count e) .1
+  few-bytes = opened .few-bytes

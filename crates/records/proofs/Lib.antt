@@ -5,3 +5,5 @@ pub mod Contents
 pub mod Judgements
 pub mod Accepted
 pub mod Crossing
+pub mod Judging
+pub mod Order

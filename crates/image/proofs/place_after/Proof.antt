@@ -5,17 +5,17 @@ use borrow.Author.Needs.{needs}
 use Rattle.image.proofs.place_after.Statement.{statement}
 use Rattle.image.proofs.place_after.Tie as tie
 
-after-requires : tie.Need-after-requires
-after-requires c κs = search needs
+range-after-requires : tie.Need-range-after-requires
+range-after-requires c κs = search needs
 
 returns : tie.Need-returns
-returns c = rw (sym (c .before .after .ensures) ∙ not-true _ (c .if1 .taken))
+returns c = rw (sym (c .before .range-after .ensures) ∙ not-true _ (c .if1 .taken))
 
 nest-requires : tie.Need-nest-requires
 nest-requires c κs = search needs
 
 returns-2 : tie.Need-returns-2
-returns-2 c = rw (sym (c .before .before .after .ensures) ∙ not-false _ (c .before .if1 .left)) (c .nest .ensures)
+returns-2 c = rw (sym (c .before .before .range-after .ensures) ∙ not-false _ (c .before .if1 .left)) (c .nest .ensures)
 
 pub place-after-spec : {M : Type 1} → statement M
-place-after-spec = tie.close (tie.spec after-requires returns nest-requires returns-2)
+place-after-spec = tie.close (tie.spec range-after-requires returns nest-requires returns-2)

@@ -1,0 +1,17 @@
+-- Where a key stands among sorted records: what a search by halves finds. proofs/Ranks.antt shows that a change is made at this place.
+use mathlib.Core.Bool.{Bool, false, cond}
+use mathlib.Core.List.{List, [], _∷_}
+use Prim.Native.Nat.{ℕ, suc}
+use Rattle.records.specs.Record.{Record, follows}
+use Rattle.rows.specs.Entry.{Entry}
+use Rattle.changes.specs.Change.{sameKey}
+
+-- how many records come before it
+unfoldable pub rankOf : Record → List Entry → ℕ
+rankOf r [] = 0
+rankOf r (x ∷ es) = cond (follows (x .parsed) r) (suc (rankOf r es)) 0
+
+-- the first of these records has this key
+abbrev pub startsWith : Record → List Entry → Bool
+startsWith r [] = false
+startsWith r (x ∷ es) = sameKey (x .parsed) r
