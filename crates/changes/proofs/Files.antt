@@ -13,11 +13,11 @@ use Rattle.changes.specs.Change.{Changed, done, refusedAt, later, afterA
 pub not-done : (offset : ℕ) (es : List Entry) → refusedAt offset ≡ done es → ⊥
 not-done offset es e = let z : _≡_ {A = ℕ} 0 1 = cc in omega arith
 
-later-zero : (c : Changed) → later 0 c ≡ c
+pub later-zero : (c : Changed) → later 0 c ≡ c
 later-zero (done es) = refl
 later-zero (refusedAt offset) = let e : 0 + offset ≡ offset = omega arith in rw e
 
-later-later : (m n : ℕ) (c : Changed) → later m (later n c) ≡ later (m + n) c
+pub later-later : (m n : ℕ) (c : Changed) → later m (later n c) ≡ later (m + n) c
 later-later m n (done es) = refl
 later-later m n (refusedAt offset) = let e : m + (n + offset) ≡ m + n + offset = omega arith in rw e
 

@@ -93,10 +93,10 @@ module _ (p : Entry → Bool) where
 
 -- Files
 
-abbrev OrderedEntries : List Entry → Type 0
+abbrev pub OrderedEntries : List Entry → Type 0
 OrderedEntries es = Ordered (parsedOf es)
 
-ordered-step : (tag : ℕ) (contents : List ℕ) (es next : List Entry) → OrderedEntries es → applied (changeOf tag contents) es ≡ some next → OrderedEntries next
+pub ordered-step : (tag : ℕ) (contents : List ℕ) (es next : List Entry) → OrderedEntries es → applied (changeOf tag contents) es ≡ some next → OrderedEntries next
 ordered-step tag contents es next s k = by-application (application tag contents es next k)
   where
     by-application : Application es next → OrderedEntries next

@@ -29,7 +29,7 @@ follows-other p r e = by-cases (follows-cases p r e)
     by-cases (inl h) = rw (ne-eqb (p .tag) (r .tag) (λ k. omega (arith, k)))
     by-cases (inr h) = rw (h .1, and-false (eqb (p .tag) (r .tag)))
 
-follows-back : (p r : Record) → follows r p ≡ true → sameKey p r ≡ false
+pub follows-back : (p r : Record) → follows r p ≡ true → sameKey p r ≡ false
 unfolding sameKey
 follows-back p r e = by-cases (follows-cases r p e)
   where

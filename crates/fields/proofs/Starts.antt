@@ -6,12 +6,14 @@ use Prim.Native.Nat.{ℕ, suc, _+_, _-_, _*_, _≤_}
 use borrow.Author.Tests.{le-leb, leb-true}
 use native.Mathlib.Omega.{arith}
 use lib.Dec.{leb}
-use lib.ListN.{length, take, drop, length-append, length-drop, take-append-drop}
+use lib.ListN.{length, getD, take, drop, length-append, length-drop, take-append-drop}
 use lib.Seq.{length-take-le, take-append-le, drop-append-le, take-all, drop-length}
 use Rattle.fields.specs.Field.{field, short, headOf, sizeOf}
 
 -- a row that starts with a whole field
 pub record Starts (s : List ℕ) (tag : ℕ) (contents rest : List ℕ) : Type 0 where
+  pub tag-is : getD s 0 0 ≡ tag
+  pub contents-is : take (length contents) (drop 3 s) ≡ contents
   pub size : sizeOf s ≡ 3 + length contents
   pub long : length s ≡ 3 + length contents + length rest
   pub rest-is : drop (sizeOf s) s ≡ rest
@@ -35,6 +37,8 @@ module _ (t h l : ℕ) (bs : List ℕ) where
         let d : length (drop n bs) ≡ length bs - n = length-drop n bs in
         let z : drop n (take n bs) ≡ [] = rw m at (drop-length (take n bs)) in
         record {
+          tag-is = refl;
+          contents-is = rw m;
           size = rw m;
           long = omega arith;
           rest-is = rw three;

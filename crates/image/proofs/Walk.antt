@@ -51,17 +51,17 @@ pub record Reached (s : List ℕ) (p : Layout) (stack : List ℕ) (depth count :
   pub here : TakenAt s (p .end) q
 
 module _ (earlier : List Record) where
-  from-end : (n : ℕ) → imageFrom n earlier [] ≡ sound (reverse earlier)
+  pub from-end : (n : ℕ) → imageFrom n earlier [] ≡ sound (reverse earlier)
   unfolding imageFrom
   from-end zero = refl
   from-end (suc n) = refl
 
-  from-full : (l : List ℕ) → 0 < length l → imageFrom 0 earlier l ≡ defective 3 (length earlier)
+  pub from-full : (l : List ℕ) → 0 < length l → imageFrom 0 earlier l ≡ defective 3 (length earlier)
   unfolding imageFrom
   from-full [] h = absurd (omega arith)
   from-full (b ∷ l) h = refl
 
-  from-next : (n : ℕ) (l : List ℕ) → 0 < length l
+  pub from-next : (n : ℕ) (l : List ℕ) → 0 < length l
       → imageFrom (suc n) earlier l ≡ afterNext earlier (nextOf earlier (headOf l)) λ r rest. imageFrom n (r ∷ earlier) rest
   unfolding imageFrom
   from-next n [] h = absurd (omega arith)

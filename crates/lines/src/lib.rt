@@ -10,19 +10,10 @@ ghost use Rattle.answers.specs.Answered.{replyOf};
 ghost use Rattle.lines.specs.Line.{following, spaced, lineText, Lined};
 ghost use Rattle.listing.specs.Writing.{Written};
 use answers::Answer;
+use listing::put_bytes;
 
 // Bytes that every line fits into.
 pub const ROOM: usize = 45100;
-
-// The bytes of a slice.
-fn put_bytes(s: &[u8], out: &mut [u8])
-    requires { ⌜ length (now s) ≤ length (now out) ⌝ }
-    ensures { λ _. ⌜ now (out .exit) ≡ now (s .entry) ++ drop (length (now (s .entry))) (now (out .entry)) ⌝ }
-{
-    for i in 0..s.len() {
-        out[i] = s[i];
-    }
-}
 
 // A number in decimal digits.
 fn put_number(n: u32, out: &mut [u8]) -> usize

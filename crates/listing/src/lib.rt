@@ -1,6 +1,8 @@
-// Record numbers reported to a lent list.
+// Record numbers reported to a lent list, and bytes written to a lent buffer.
+ghost use mathlib.Core.Path.{_≡_};
+ghost use mathlib.Core.List.{_++_};
 ghost use Prim.Native.Nat.{_≤_};
-ghost use lib.ListN.{length};
+ghost use lib.ListN.{length, drop};
 ghost use Rattle.listing.specs.Listing.{foundNumbers, Reported};
 
 // The number of a record, if there is one.
@@ -41,5 +43,15 @@ pub fn report_found(found: Found, list: &mut [u32]) -> Listed
     match found {
         Found::At(n) => report(&[n], list),
         Found::Nothing => Listed::Done(0),
+    }
+}
+
+// The bytes of a slice, to the front of a buffer.
+pub fn put_bytes(s: &[u8], out: &mut [u8])
+    requires { ⌜ length (now s) ≤ length (now out) ⌝ }
+    ensures { λ _. ⌜ now (out .exit) ≡ now (s .entry) ++ drop (length (now (s .entry))) (now (out .entry)) ⌝ }
+{
+    for i in 0..s.len() {
+        out[i] = s[i];
     }
 }

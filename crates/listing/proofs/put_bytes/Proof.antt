@@ -5,10 +5,10 @@ use mathlib.Core.List.{_++_}
 use native.Mathlib.Omega.{arith}
 use lib.ListN.{length, take, drop, length-set}
 use lib.Seq.{take-length}
 use Rattle.listing.proofs.Replies.{copied-next}
 use borrow.Author.Needs.{needs}
-use Rattle.lines.proofs.put_bytes.Statement.{statement}
-use Rattle.lines.proofs.put_bytes.Tie as tie
+use Rattle.listing.proofs.put_bytes.Statement.{statement}
+use Rattle.listing.proofs.put_bytes.Tie as tie
 
 abbrev Inv-loop : tie.InvT-loop
 Inv-loop s out₀ i₀ i-end out i = (i-end ≡ length s) × (i ≤ length s) × (length out ≡ length out₀) × (out ≡ take i s ++ drop i out₀)

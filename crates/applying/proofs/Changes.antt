@@ -1,0 +1,186 @@
+-- One change of a file, test by test.
+use mathlib.Core.Path.{_≡_, refl, sym, _∙_, ap, subst}
+use mathlib.Core.Bool.{Bool, true, false, cond, _&&_, false≢true}
+use mathlib.Core.List.{List, [], _∷_}
+use Prim.Native.Nat.{ℕ, suc, _+_, _-_, _*_, _≤_, _<_}
+use native.Mathlib.Omega.{arith}
+use native.Mathlib.Nat.{le-refl}
+use borrow.Author.Tests.{le-leb, lt-leb, leb-true, eq-eqb, ne-eqb, eqb-true}
+use lib.Dec.{leb, eqb}
+use lib.ListN.{length, getD, take, drop, length-drop, drop-of-length-le}
+use lib.Seq.{slice, take-all, drop-cons, take-length, slice-cons, length-slice}
+use Rattle.address.specs.Ranges.{rangeFrom, wellFormed}
+use Rattle.address.specs.Positions.{numberIn}
+use Rattle.fields.specs.Field.{field, short, headOf}
+use Rattle.fields.specs.Place.{fieldAt}
+use Rattle.fields.specs.declared.Field.{Field}
+use Rattle.fields.specs.declared.Field.the-variants.{Whole, Short}
+use Rattle.name.specs.Texts.{goodText, goodHost}
+use Rattle.records.specs.Record.{Record, isBlock, isKnown, widthOf, goodName}
+use Rattle.records.specs.Judge.{Judged, bad, good, inOrder, crossesAny, judgeOverlap, judge}
+use Rattle.records.specs.Layout.{layoutOf, recordOn, Readable, Judging}
+use Rattle.records.specs.declared.Judgement.{Judgement}
+use Rattle.records.specs.declared.Judgement.the-variants.{Good, Bad}
+use Rattle.records.proofs.Shapes.{no-block, a-block}
+use Rattle.image.specs.Place.{goodBlock}
+use Rattle.image.proofs.Judged.{judged-on}
+use Rattle.rows.specs.Entry.{entry}
+use Rattle.changes.specs.Change as Changes
+use Rattle.changes.specs.Change.{keyed, goodKey, addJudged, addOf, removeOf, changeOf}
+use Rattle.merged.specs.Held.{parsedFrom, recordIn, entryOf, Recorded, Key}
+use Rattle.applying.specs.Steps.{Addition, Removal, changeIn, Stated, ChangeAt}
+use Rattle.applying.specs.declared.Change.the-variants.{Add, Remove, Malformed}
+use Rattle.merged.proofs.Fields.{bytes-inside, head-short, head-whole}
+
+-- Additions
+
+no-true : {A : Type 0} → false ≡ true → A
+no-true e = absurd (false≢true e)
+
+module _ (s : List ℕ) (f : Field) (e : f ≡ fieldAt s 0 (length s)) where
+  pub add-short : f ≡ Short → Addition s false
+  add-short g = record { is = rw (head-short s 0 f e (omega arith) g); whole = no-true }
+
+  module _ (tag a b : ℕ) (g : f ≡ Whole tag a b) where
+    head : headOf s ≡ field tag (slice a b s) (drop b s)
+    head = head-whole s 0 f e tag a b g
+
+    pub add-longer : (b ≡ length s → ⊥) → Addition s false
+    add-longer n =
+        let i = bytes-inside s 0 f e tag a b g in
+        record { is = rw (head, drop-cons s b 0 (omega (arith, i .within, n))); whole = no-true }
+
+    module _ (h : b ≡ length s) where
+      alone : headOf s ≡ field tag (slice a b s) []
+      alone = rw (drop-of-length-le s {i = b} (omega arith)) at head
+
+      by-good : (r : Record) → judge [] tag (slice a b s) ≡ good r → Addition s true
+      unfolding parsedFrom
+      by-good r k =
+          let p : parsedFrom s ≡ r = rw (alone, k) in
+          record { is = rw (alone, k); whole = λ z. record { tag = tag; contents = slice a b s; head = alone; alone = k ∙ ap good (sym p) } }
+
+      by-bad : (d : ℕ) → judge [] tag (slice a b s) ≡ bad d → Addition s false
+      by-bad d k = record { is = rw (alone, k); whole = no-true }
+
+      module _ (j : Judgement) (m : Judging s tag a b j) where
+        pub add-bad : (d : ℕ) → j ≡ Bad d → Addition s false
+        add-bad d x = let k : Judging s tag a b (Bad d) = rw x at m in by-bad d (ap (judgeOverlap []) (k []))
+
+        pub add-good : (middle : ℕ) → j ≡ Good middle → (t : Bool) → t ≡ goodBlock (recordOn s (layoutOf tag a middle b)) → Addition s t
+        unfolding inOrder crossesAny
+        add-good middle x t y = by-test t (judged-on s (layoutOf tag a middle b) (rw x at m) [] t true false (sym y) refl refl)
+          where
+            by-test : (t : Bool) → judge [] tag (slice a b s) ≡ cond t (good (recordOn s (layoutOf tag a middle b))) (bad 5) → Addition s t
+            by-test true k = by-good (recordOn s (layoutOf tag a middle b)) k
+            by-test false k = by-bad 5 k
+
+-- Removals
+
+and-left : (a b : Bool) → (a && b) ≡ true → a ≡ true
+and-left true b e = refl
+and-left false b e = e
+
+and-right : (a b : Bool) → (a && b) ≡ true → b ≡ true
+and-right true b e = e
+and-right false b e = no-true e
+
+key-sized : (tag : ℕ) (key : List ℕ) → 16 ≤ tag → tag ≤ 18 → goodKey tag key ≡ true → length key ≡ 2 * widthOf tag
+unfolding goodKey
+key-sized tag key h k e = eqb-true (length key) (2 * widthOf tag) (and-left _ _ (rw (a-block tag h k) at e))
+
+pub remove-none : (s : List ℕ) → length s ≡ 0 → Removal s false
+remove-none [] h = record { is = refl; some-tag = no-true; key = no-true }
+remove-none (tag ∷ key) h = absurd (omega arith)
+
+removal : (s : List ℕ) → 0 < length s → (t : Bool) → (isKnown (getD s 0 0) && goodKey (getD s 0 0) (drop 1 s)) ≡ t → Removal s t
+removal [] h t e = absurd (omega arith)
+removal (tag ∷ key) h false e = record { is = rw e; some-tag = no-true; key = no-true }
+removal (tag ∷ key) h true e =
+    let l : 16 ≤ tag = leb-true 16 tag (and-left _ (leb tag 21) (and-left _ (goodKey tag key) e)) in
+    record { is = rw e; some-tag = λ z. h; key = λ z. record { known = l; sized = λ k. key-sized tag key l k (and-right (isKnown tag) _ e) } }
+
+module _ (s : List ℕ) (h : 0 < length s) where
+  pub remove-low : getD s 0 0 < 16 → Removal s false
+  remove-low k = removal s h false (rw (lt-leb 16 (getD s 0 0) k))
+
+  module _ (k : 16 ≤ getD s 0 0) where
+    pub remove-high : 21 < getD s 0 0 → Removal s false
+    remove-high l = removal s h false (rw (le-leb 16 (getD s 0 0) k, lt-leb (getD s 0 0) 21 l))
+
+    pub remove-by : getD s 0 0 ≤ 21 → (t : Bool) → t ≡ goodKey (getD s 0 0) (take (length s - 1) (drop 1 s)) → Removal s t
+    remove-by l t e =
+        let z : take (length s - 1) (drop 1 s) ≡ drop 1 s = take-all (length s - 1) (drop 1 s) (omega (arith, length-drop 1 s)) in
+        removal s h t (rw (le-leb 16 (getD s 0 0) k, le-leb (getD s 0 0) 21 l) (sym (rw z at e)))
+
+-- Keys
+
+module _ (tag : ℕ) (key : List ℕ) where
+  module _ (h : 16 ≤ tag) (k : tag ≤ 18) where
+    pub key-length : (length key ≡ 2 * widthOf tag → ⊥) → false ≡ goodKey tag key
+    unfolding goodKey
+    key-length n = rw (a-block tag h k, ne-eqb (length key) (2 * widthOf tag) n)
+
+    pub key-range : length key ≡ 2 * widthOf tag → (t : Bool) → t ≡ leb (numberIn key 0 (widthOf tag)) (numberIn key (widthOf tag) (widthOf tag)) → t ≡ goodKey tag key
+    unfolding goodKey wellFormed
+    key-range e t f =
+        let w : ℕ = widthOf tag in
+        let z : 0 + widthOf tag ≡ widthOf tag = omega arith in
+        let y : take (widthOf tag + widthOf tag) key ≡ key = take-all (widthOf tag + widthOf tag) key (omega arith) in
+        rw (a-block tag h k, eq-eqb (length key) (2 * widthOf tag) e) (rw (z, y) at f)
+
+  pub key-handle : 18 < tag → tag ≡ 21 → (t : Bool) → t ≡ goodText 0x21 key → t ≡ goodKey tag key
+  unfolding goodKey
+  key-handle h k t e = rw (no-block tag h, eq-eqb tag 21 k) e
+
+  pub key-host : 18 < tag → tag ≤ 21 → (tag ≡ 21 → ⊥) → (t : Bool) → t ≡ goodHost key → t ≡ goodKey tag key
+  unfolding goodKey goodName
+  key-host h l n t e = rw (no-block tag h, ne-eqb tag 21 n, le-leb 0x13 tag (omega arith), le-leb tag 0x14 (omega arith)) e
+
+-- Changes
+
+module _ (s : List ℕ) (at : ℕ) (l : at ≤ length s) (f : Field) (e : f ≡ fieldAt s at (length s)) where
+  pub change-short : f ≡ Short → ChangeAt s at Malformed
+  change-short g = rw (head-short s at f e l g)
+
+  module _ (tag a b : ℕ) (g : f ≡ Whole tag a b) where
+    stated : (change : Changes.Change) → changeOf tag (slice a b s) ≡ change → Stated s at a b change
+    stated change x =
+        let i = bytes-inside s at f e tag a b g in
+        record { tag = tag; head = head-whole s at f e tag a b g; is = x; after = i .after; forward = i .forward; within = i .within }
+
+    malformed-is : changeOf tag (slice a b s) ≡ Changes.malformed → ChangeAt s at Malformed
+    malformed-is x = rw (head-whole s at f e tag a b g) x
+
+    module _ (z : tag ≡ 48) (t : Bool) (r : Addition (slice a b s) t) where
+      adds : changeOf tag (slice a b s) ≡ cond t (Changes.add (entryOf (slice a b s))) Changes.malformed
+      unfolding changeOf
+      adds = rw (eq-eqb tag 48 z) (r .is)
+
+      pub change-add : t ≡ true → ChangeAt s at (Add a b)
+      change-add y = (stated _ (rw y at adds), r .whole y)
+
+      pub change-no-record : t ≡ false → ChangeAt s at Malformed
+      change-no-record y = malformed-is (rw y at adds)
+
+    module _ (n : tag ≡ 48 → ⊥) where
+      pub change-other : (tag ≡ 49 → ⊥) → ChangeAt s at Malformed
+      unfolding changeOf
+      change-other m = malformed-is (rw (ne-eqb tag 48 n, ne-eqb tag 49 m))
+
+      module _ (z : tag ≡ 49) (t : Bool) (r : Removal (slice a b s) t) where
+        removes : changeOf tag (slice a b s) ≡ cond t (Changes.remove (keyed (getD (slice a b s) 0 0) (drop 1 (slice a b s)))) Changes.malformed
+        unfolding changeOf
+        removes = rw (ne-eqb tag 48 n, eq-eqb tag 49 z) (r .is)
+
+        pub change-no-key : t ≡ false → ChangeAt s at Malformed
+        change-no-key y = malformed-is (rw y at removes)
+
+        pub change-remove : t ≡ true → ChangeAt s at (Remove a b)
+        change-remove y =
+            let i = bytes-inside s at f e tag a b g in
+            let some : a < b = omega (arith, r .some-tag y, length-slice a b s (i .within), i .forward) in
+            let c : slice a b s ≡ getD s a 0 ∷ slice (suc a) b s = slice-cons a b s 0 some (i .within) in
+            let d : suc a ≡ a + 1 = omega arith in
+            let q : keyed (getD (slice a b s) 0 0) (drop 1 (slice a b s)) ≡ keyed (getD s a 0) (slice (a + 1) b s) = rw (c, d) in
+            (stated _ ((rw y at removes) ∙ ap Changes.remove q), some, rw (c, d) at (r .key y))

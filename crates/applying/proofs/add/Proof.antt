@@ -1,0 +1,115 @@
+-- The record by its place in the change file, put where its rank is (Applying.antt).
+use borrow.Author.Needs.{needs}
+use mathlib.Core.Path.{_≡_, refl, sym, _∙_, ap}
+use mathlib.Core.Bool.{Bool, true, false, cond, not, false≢true}
+use mathlib.Core.List.{List, [], _∷_, _++_}
+use Prim.Native.Nat.{ℕ, zero, suc, _+_, _-_, _*_, _≤_, _<_}
+use native.Mathlib.Omega.{arith}
+use lib.ListN.{length, getD, take, drop}
+use denote.Ref.{now}
+use mathlib.Core.Path.{subst}
+use lib.Seq.{slice}
+use Rattle.fields.specs.Slices.{part-slice}
+use Rattle.merged.specs.Held.{bytesAt, entryOf, entriesAt, Recorded, Key}
+use mathlib.Core.Option.{Option}
+use Rattle.rows.specs.Entry.{Entry}
+use Rattle.changes.specs.Change as Changes
+use Rattle.changes.specs.Change.{applied}
+use Rattle.merged.proofs.Known.{known, key-read}
+use Rattle.applying.proofs.Applying.{record-place, add-there, add-here, add-place}
+use Rattle.applying.proofs.add.Statement.{statement}
+use Rattle.applying.proofs.add.Tie as tie
+
+sub-r : tie.Need-sub-r
+sub-r c = search needs
+
+part-r-start : tie.Need-part-r-start
+part-r-start c = search needs
+
+part-r-end : tie.Need-part-r-end
+part-r-end c = search needs
+
+part : (c : tie.After-shared-slice-known) → take (c .before .args .end - c .before .args .start) (drop (c .before .args .start) (now (c .before .args .changes))) ≡ slice (c .before .args .start) (c .before .args .end) (now (c .before .args .changes))
+part c = part-slice (c .before .args .start) (c .before .args .end) (now (c .before .args .changes)) (c .before .pre .2)
+
+whole : (c : tie.After-shared-slice-known) → Recorded (take (c .before .args .end - c .before .args .start) (drop (c .before .args .start) (now (c .before .args .changes))))
+whole c = subst Recorded (sym (part c)) (c .before .pre .6)
+
+abbrev start : tie.After-key-of → tie.Start
+start k = k .before .before .before .before .before
+
+same : (k : tie.After-key-of) (x : Option (List Entry))
+    → applied (Changes.add (entryOf (take (start k .args .end - start k .args .start) (drop (start k .args .start) (now (start k .args .changes)))))) (entriesAt (now (start k .args .image)) (now (start k .args .changes)) (take (start k .args .n) (now (start k .args .index)))) ≡ x
+    → applied (Changes.add (entryOf (slice (start k .args .start) (start k .args .end) (now (start k .args .changes))))) (entriesAt (now (start k .args .image)) (now (start k .args .changes)) (take (start k .args .n) (now (start k .args .index)))) ≡ x
+same k x e =
+    let a = start k in
+    ap (λ (s : List ℕ). applied (Changes.add (entryOf s)) (entriesAt (now (a .args .image)) (now (a .args .changes)) (take (a .args .n) (now (a .args .index))))) (sym (part (k .before .before .before .before))) ∙ e
+
+place : (k : tie.After-key-of) → bytesAt (now (start k .args .image)) (now (start k .args .changes)) (262144 + start k .args .start) ≡ take (start k .args .end - start k .args .start) (drop (start k .args .start) (now (start k .args .changes)))
+place k =
+    let a = start k in
+    record-place (now (a .args .image)) (now (a .args .changes)) (a .args .start) (a .args .end) (a .pre .2) (a .pre .3) (a .pre .6) ∙ sym (part (k .before .before .before .before))
+
+key : (k : tie.After-key-of) → Key (getD (take (start k .args .end - start k .args .start) (drop (start k .args .start) (now (start k .args .changes)))) 0 0) (now (k .key-of .result))
+key k = key-read _ (whole (k .before .before .before .before)) _ _ refl (k .key-of .ensures)
+
+shared-slice-read-tag : tie.Need-shared-slice-read-tag
+shared-slice-read-tag c = omega (arith, known _ (whole (c .before .before .before)) .long)
+
+key-of-requires : tie.Need-key-of-requires
+key-of-requires c κs = whole (c .before .before .before)
+
+rank-requires : tie.Need-rank-requires
+rank-requires c κs =
+    let k = c .before in
+    let a = start k in
+    (a .pre .0, omega (arith, a .pre .1), a .pre .5, key k)
+
+is-there-requires : tie.Need-is-there-requires
+is-there-requires c κs =
+    let k = c .before .before .before in
+    let a = start k in
+    (a .pre .0, omega (arith, a .pre .1), a .pre .5, key k, c .before .rank .ensures)
+
+returns : tie.Need-returns
+returns c =
+    let k = c .before .before .before .before .before in
+    let a = start k in
+    (same k _ (add-there _ _ _ (a .args .n) (omega (arith, a .pre .0, a .pre .1)) (a .pre .5) _ (whole (k .before .before .before .before)) _ _ refl (k .key-of .ensures) _ (c .before .is-there .ensures) (c .if1 .taken)), a .pre .0)
+
+add-insert-at : tie.Need-add-insert-at
+add-insert-at c = search needs
+
+cast-insert-at : tie.Need-cast-insert-at
+cast-insert-at c = search needs
+
+insert-at-requires : tie.Need-insert-at-requires
+insert-at-requires c κs =
+    let e = c .before .before in
+    let k = e .before .before .before .before in
+    let a = start k in
+    (a .pre .0, a .pre .1, add-place _ _ _ (a .args .n) (omega (arith, a .pre .0, a .pre .1)) (a .pre .5) _ (whole (k .before .before .before .before)) _ _ refl (k .key-of .ensures) _ (e .before .before .rank .ensures))
+
+returns-2 : tie.Need-returns-2
+returns-2 c =
+    let e = c .before .before .before in
+    let k = e .before .before .before .before in
+    let a = start k in
+    (same k _ (add-here _ _ _ (a .args .n) (omega (arith, a .pre .0, a .pre .1)) (a .pre .5) _ (whole (k .before .before .before .before)) _ _ refl (k .key-of .ensures) _ (e .is-there .ensures) (c .before .before .if1 .left) _ (e .before .before .rank .ensures) (262144 + a .args .start) (place k) _ (c .insert-at .ensures .0)), c .insert-at .ensures .1)
+
+pub add-spec : {M : Type 1} → statement M
+add-spec =
+    tie.close
+    (tie.spec
+    sub-r
+    part-r-start
+    part-r-end
+    shared-slice-read-tag
+    key-of-requires
+    rank-requires
+    is-there-requires
+    returns
+    add-insert-at
+    cast-insert-at
+    insert-at-requires
+    returns-2)

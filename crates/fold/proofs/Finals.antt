@@ -1,0 +1,150 @@
+-- The final judgement, and the answers of the call.
+use mathlib.Core.Path.{_≡_, refl, sym, _∙_, ap, subst}
+use mathlib.Core.Bool.{Bool, true, false, cond}
+use mathlib.Core.List.{List, [], _∷_, _++_, append-assoc}
+use Prim.Native.Nat.{ℕ, zero, suc, _+_, _-_, _≤_, _<_}
+use native.Mathlib.Omega.{arith}
+use borrow.Author.Tests.{le-leb, lt-leb}
+use lib.Dec.{leb}
+use lib.ListN.{length, take, drop, length-append, length-reverse, length-drop, drop-of-length-le}
+use lib.Seq.{length-take-le, take-all, drop-drop}
+use borrow.Rule.Slice.PartMut.{putMid}
+use Rattle.records.specs.Record.{Record}
+use Rattle.image.specs.Image.{Image, sound, defective, imageFrom, startsRight, imageOf}
+use Rattle.image.specs.Part.{recordsOf}
+use Rattle.image.specs.Place.{verdictOf}
+use Rattle.image.specs.declared.Verdict.{Verdict}
+use Rattle.image.specs.declared.Verdict.the-variants.{Sound, Defective}
+use Rattle.image.proofs.Walk.{from-end, from-full, start-length}
+use Rattle.rows.specs.Entry.{Entry, entriesOf, rowOf}
+use Rattle.rows.specs.Good.{AllGood, good-cons}
+use Rattle.fields.proofs.Starts.{starts}
+use Rattle.rows.proofs.Images.{length-of, image-of, entries-good}
+use Rattle.rows.proofs.Rows.{parsed-entries}
+use Rattle.rows.proofs.Ordering.{sound-ordered}
+use Rattle.merged.specs.Held.{entriesAt, Held}
+use Rattle.changes.specs.Change.{Changed, done, refusedAt, changesOf}
+use Rattle.changes.specs.Fold.{Folding, badImage, badChange, noRoom, fits, finished, afterChanges, afterImage, foldOf}
+use Rattle.listing.specs.Writing.{Written}
+use Rattle.listing.proofs.Writing.{written-both}
+use Rattle.fold.specs.Overlaps.{AllPassed, Overlaps}
+use Rattle.fold.specs.Call.{foldedOf, counting, outAfter, Gives}
+use Rattle.fold.specs.declared.Folded.{Folded}
+
+-- The verdict on the start of an image and a row of entries
+
+-- a row of some entries is not empty
+row-some : (es : List Entry) → AllGood es → 0 < length es → 0 < length (rowOf es)
+unfolding rowOf
+row-some [] k h = absurd (omega arith)
+row-some (e ∷ es) (good-cons x k) h =
+    omega (arith, starts (e .bytes) (x .tag) (x .contents) [] (x .head) .long, length-append (e .bytes) (rowOf es))
+
+good-drop : (n : ℕ) (es : List Entry) → AllGood es → AllGood (drop n es)
+good-drop zero es k = k
+good-drop (suc n) [] k = k
+good-drop (suc n) (e ∷ es) (good-cons x k) = good-drop n es k
+
+module _ (image : List ℕ) (es : List Entry) (s : startsRight image ≡ true) (size : ℕ) (z : size ≡ 4 + length (rowOf es)) where
+  pub too-long : 262144 < size → Defective 1 0 ≡ verdictOf (imageOf (take 4 image ++ rowOf es))
+  unfolding imageOf
+  too-long h = rw (length-of image (rowOf es) s, lt-leb (4 + length (rowOf es)) 262144 (omega arith))
+
+  module _ (h : size ≤ 262144) (k : AllGood es) (n k₀ few : ℕ) (count : length es ≡ n) where
+    reads : imageOf (take 4 image ++ rowOf es) ≡ imageFrom 4096 [] (rowOf es)
+    reads = image-of image (rowOf es) s (omega arith)
+
+    pub overlapping : Overlaps es few k₀ → k₀ < few → Defective 7 k₀ ≡ verdictOf (imageOf (take 4 image ++ rowOf es))
+    overlapping o l = sym (ap verdictOf (reads ∙ o .here l))
+
+    pub too-many : Overlaps es few k₀ → few ≤ k₀ → few ≡ 4096 → 4096 < n → Defective 3 4096 ≡ verdictOf (imageOf (take 4 image ++ rowOf es))
+    too-many o l f m =
+        let a = o .none l in
+        let d : 4096 - few ≡ 0 = omega arith in
+        let g : 0 < length (rowOf (drop few es)) = row-some (drop few es) (good-drop few es k) (omega (arith, length-drop few es)) in
+        let e : imageFrom 0 (a .earlier) (rowOf (drop few es)) ≡ imageFrom 4096 [] (rowOf es) = rw d at (a .rest) in
+        sym (ap verdictOf (reads ∙ sym e ∙ from-full (a .earlier) (rowOf (drop few es)) g ∙ ap (defective 3) (a .counted ∙ f)))
+
+    pub no-defect : Overlaps es few k₀ → few ≤ k₀ → few ≡ n → Sound n ≡ verdictOf (imageOf (take 4 image ++ rowOf es))
+    unfolding rowOf
+    no-defect o l f =
+        let a = o .none l in
+        let d : drop few es ≡ [] = drop-of-length-le es {i = few} (omega arith) in
+        let e : imageFrom (4096 - few) (a .earlier) [] ≡ imageFrom 4096 [] (rowOf es) = rw d at (a .rest) in
+        sym (ap verdictOf (reads ∙ sym e ∙ from-end (a .earlier) (4096 - few)) ∙ rw (length-reverse (a .earlier), a .counted, f))
+
+-- The answers
+
+sound-or : (i : Image) (out : List ℕ) (room : ℕ) → ((d p : ℕ) → i ≡ defective d p → ⊥) → finished out room i ≡ cond (leb (length out) room) (fits out) (noRoom (length out))
+sound-or (sound records) out room h = refl
+sound-or (defective d p) out room h = absurd (h d p refl)
+
+verdict-bad : (i : Image) (v : Verdict) (d p : ℕ) → v ≡ verdictOf i → v ≡ Defective d p → i ≡ defective d p
+verdict-bad (sound records) v d p e f = let z : _≡_ {A = ℕ} 0 1 = cc in absurd (omega arith)
+verdict-bad (defective a b) v d p e f = cc
+
+verdict-good : (i : Image) (v : Verdict) (n : ℕ) → v ≡ verdictOf i → v ≡ Sound n → (d p : ℕ) → i ≡ defective d p → ⊥
+verdict-good i v n e f d p g = let h : Sound n ≡ Defective d p = sym f ∙ e ∙ ap verdictOf g in let z : _≡_ {A = ℕ} 0 1 = cc in omega arith
+
+module _ (out before : List ℕ) (v : Verdict) (e : v ≡ verdictOf (imageOf out)) where
+  pub finish-bad : (d p : ℕ) → v ≡ Defective d p → (r : Folded) → r ≡ foldedOf (badImage 12 d p) → Gives (finished out (length before) (imageOf out)) before before r
+  finish-bad d p f r g = rw (verdict-bad (imageOf out) v d p e f) (record { numbers = g; out = refl })
+
+  module _ (n : ℕ) (f : v ≡ Sound n) (size : ℕ) (z : size ≡ length out) (r : Folded) where
+    result : finished out (length before) (imageOf out) ≡ cond (leb (length out) (length before)) (fits out) (noRoom (length out))
+    result = sound-or (imageOf out) out (length before) (verdict-good (imageOf out) v n e f)
+
+    pub finish-full : length before < size → r ≡ counting 9 size → Gives (finished out (length before) (imageOf out)) before before r
+    finish-full h g = rw (result, lt-leb (length out) (length before) (omega arith)) (record { numbers = g ∙ ap (counting 9) z; out = refl })
+
+    pub finish-written : size ≤ length before → (after : List ℕ) (written : ℕ) → Written out before after written
+        → r ≡ counting 0 written → Gives (finished out (length before) (imageOf out)) before after r
+    finish-written h after written w k =
+        rw (result, le-leb (length out) (length before) (omega arith))
+        (record { numbers = k ∙ ap (counting 0) (w .size); out = w .is ∙ ap (λ (n : ℕ). out ++ drop n before) (w .size) })
+
+-- the start of an image and a row of so many bytes
+pub image-size : (image : List ℕ) (es : List Entry) → startsRight image ≡ true → (size : ℕ) → size ≡ length (rowOf es) → 4 + size ≡ length (take 4 image ++ rowOf es)
+image-size image es s size e = ap (λ (n : ℕ). 4 + n) e ∙ sym (length-of image (rowOf es) s)
+
+-- Bytes written behind others
+
+pub put-next : {s r x before b c row : List ℕ} {m : ℕ} → Written s before b m → r ≡ x → row ≡ s ++ x → c ≡ r ++ drop (length r) (take (length b - m) (drop m b))
+    → Written row before (putMid m (length b - m) b c) (m + length r)
+put-next {s} {r} {x} {before} {b} {c} {row} {m} u e f g =
+    subst (λ (t : List ℕ). Written t before (putMid m (length b - m) b c) (m + length r)) (ap (λ (t : List ℕ). s ++ t) e ∙ sym f) (written-both u (record { size = refl; is = g }))
+
+-- The call
+
+module _ (image changes before : List ℕ) where
+  pub fold-defective : (v : Verdict) → v ≡ verdictOf (imageOf image) → (d p : ℕ) → v ≡ Defective d p → (r : Folded) → r ≡ foldedOf (badImage 2 d p)
+      → Gives (foldOf image changes (length before)) before before r
+  unfolding foldOf
+  fold-defective v e d p f r g = rw (verdict-bad (imageOf image) v d p e f) (record { numbers = g; out = refl })
+
+  module _ (s : imageOf image ≡ sound (recordsOf (imageOf image))) where
+    by-sound : (records : List Record) → imageOf image ≡ sound records → (t : Bool) → leb (length changes) 65536 ≡ t
+        → foldOf image changes (length before) ≡ cond t (afterChanges (take 4 image) (length before) (changesOf (entriesOf records (drop 4 image)) changes)) (badChange 0)
+    unfolding foldOf
+    by-sound records e t f = rw (e, f)
+
+    pub fold-long : 65536 < length changes → (r : Folded) → r ≡ foldedOf (badChange 0) → Gives (foldOf image changes (length before)) before before r
+    fold-long h r g = rw (by-sound (recordsOf (imageOf image)) s false (lt-leb _ _ h)) (record { numbers = g; out = refl })
+
+    module _ (h : length changes ≤ 65536) where
+      pub fold-refused : (o : ℕ) → changesOf (entriesOf (recordsOf (imageOf image)) (drop 4 image)) changes ≡ refusedAt o → (r : Folded) → r ≡ foldedOf (badChange o)
+          → Gives (foldOf image changes (length before)) before before r
+      fold-refused o e r g = rw (by-sound (recordsOf (imageOf image)) s true (le-leb _ _ h), e) (record { numbers = g; out = refl })
+
+      pub fold-finished : (es : List Entry) → changesOf (entriesOf (recordsOf (imageOf image)) (drop 4 image)) changes ≡ done es → (after : List ℕ) (r : Folded)
+          → Gives (finished (take 4 image ++ rowOf es) (length before) (imageOf (take 4 image ++ rowOf es))) before after r
+          → Gives (foldOf image changes (length before)) before after r
+      fold-finished es e after r a = rw (by-sound (recordsOf (imageOf image)) s true (le-leb _ _ h), e) a
+
+-- the index of a sound image holds its records
+pub image-held : (image changes index : List ℕ) → imageOf image ≡ sound (recordsOf (imageOf image))
+    → entriesAt image changes index ≡ entriesOf (recordsOf (imageOf image)) (drop 4 image) → Held image changes index
+image-held image changes index s e = record {
+  good = rw e (entries-good image (recordsOf (imageOf image)) s);
+  ordered = rw (e, parsed-entries (recordsOf (imageOf image)) (drop 4 image)) (sound-ordered image (recordsOf (imageOf image)) s);
+}

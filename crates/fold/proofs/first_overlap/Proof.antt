@@ -1,0 +1,134 @@
+-- The records before i do not overlap, and the open blocks stand for them (Scans.antt).
+use borrow.Author.Needs.{needs}
+use mathlib.Core.Path.{_≡_, refl, sym, _∙_, ap}
+use mathlib.Core.Bool.{Bool, true, false, cond, not, false≢true}
+use mathlib.Core.List.{List, [], _∷_, _++_}
+use Prim.Native.Nat.{ℕ, zero, suc, _+_, _-_, _*_, _≤_, _<_}
+use native.Mathlib.Omega.{arith}
+use lib.ListN.{length, getD, take, drop}
+use denote.Ref.{now}
+use mathlib.Core.Path.{subst}
+use Rattle.merged.specs.Held.{bytesAt, parsedFrom, entriesAt, Recorded}
+use Rattle.fold.specs.Overlaps.{PlacedIn}
+use Rattle.merged.proofs.Known.{known}
+use Rattle.fold.proofs.Scans.{Scanned, scan-start, scan-on, scan-crossing, scan-depth, scan-room, open-blocks, whole, overlap-here, overlap-none}
+use Rattle.fold.proofs.first_overlap.Statement.{statement}
+use Rattle.fold.proofs.first_overlap.Tie as tie
+
+abbrev Inv-loop : tie.InvT-loop
+Inv-loop image changes index count n stack₀ depth₀ family₀ i₀ stack depth family i = (i ≤ n) × Scanned image changes (entriesAt image changes (take count index)) stack depth family i
+
+abbrev μ-loop : tie.MeasureT-loop
+μ-loop image changes index count n stack₀ depth₀ family₀ i₀ stack depth family i = n - i
+
+loop-holds : tie.Need-loop-holds Inv-loop μ-loop
+loop-holds c = (omega arith, scan-start _ _ _ _ refl)
+
+mul-place : tie.Need-mul-place Inv-loop μ-loop
+mul-place c = search needs
+
+element-copy-out-place : tie.Need-element-copy-out-place Inv-loop μ-loop
+element-copy-out-place c =
+    let a = c .before .before .before .before in
+    omega (arith, c .loop-test .taken, a .pre .1)
+
+record-at-requires : tie.Need-record-at-requires Inv-loop μ-loop
+record-at-requires c κs = search needs
+
+place-of-requires : tie.Need-place-of-requires Inv-loop μ-loop
+place-of-requires c κs =
+    let i = c .before .before .before in
+    let a = i .before .before .before .before in
+    let e = c .before .record-at .ensures in
+    (scan-room _ _ _ (a .args .count) (omega (arith, a .pre .0, a .pre .4)) (a .pre .2) _ _ _ _ (i .before .loop .inv .1) (omega (arith, i .loop-test .taken, a .pre .3)) (omega (arith, i .loop-test .taken, a .pre .1)),
+    subst Recorded (sym e) (whole _ _ _ (a .args .count) (omega (arith, a .pre .0, a .pre .4)) (a .pre .2) _ _ _ _ (i .before .loop .inv .1) (omega (arith, i .loop-test .taken, a .pre .3))),
+    λ f b. open-blocks _ _ _ (a .args .count) (omega (arith, a .pre .0, a .pre .4)) (a .pre .2) _ _ _ _ (i .before .loop .inv .1) (omega (arith, i .loop-test .taken, a .pre .3)) (f ∙ ap (λ (s : List ℕ). parsedFrom s .tag) e) b)
+
+enum-known-d : tie.Need-enum-known-d Inv-loop μ-loop
+enum-known-d c = search needs
+
+placed : (p : tie.After-place-of Inv-loop μ-loop) → PlacedIn (now (p .before .before .before .before .before .before .before .before .args .image)) (now (p .before .before .before .before .before .before .before .before .args .changes))
+    (parsedFrom (bytesAt (now (p .before .before .before .before .before .before .before .before .args .image)) (now (p .before .before .before .before .before .before .before .before .args .changes)) (getD (now (p .before .before .before .before .before .before .before .before .args .index)) (p .before .before .before .before .before .loop .i) 0)))
+    (p .before .before .before .before .before .loop .stack) (p .before .before .before .before .before .loop .family) (p .before .before .before .before .before .loop .depth) (p .place-of .result)
+placed p =
+    let i = p .before .before .before .before in
+    let a = i .before .before .before .before in
+    let l = i .before .loop in
+    subst (λ (s : List ℕ). PlacedIn (now (a .args .image)) (now (a .args .changes)) (parsedFrom s) (l .stack) (l .family) (l .depth) (p .place-of .result)) (p .before .before .record-at .ensures) (p .place-of .ensures)
+
+deep : (d : tie.After-d Inv-loop μ-loop) → d .d .given .0 .0 < 4096
+deep d =
+    let i = d .before .before .before .before .before .before in
+    let a = i .before .before .before .before in
+    scan-depth _ _ _ (a .args .count) (omega (arith, a .pre .0, a .pre .4)) (a .pre .2) _ _ _ _ (i .before .loop .inv .1) (omega (arith, i .loop-test .taken, a .pre .3)) (omega (arith, i .loop-test .taken, a .pre .1)) _ (placed (d .before .before)) _ (d .d .given .1)
+
+mul-stack : tie.Need-mul-stack Inv-loop μ-loop
+mul-stack c = omega (arith, deep (c .before))
+
+array-write-stack : tie.Need-array-write-stack Inv-loop μ-loop
+array-write-stack c = omega (arith, deep (c .before))
+
+add-depth : tie.Need-add-depth Inv-loop μ-loop
+add-depth c = omega (arith, deep (c .before))
+
+shared-slice-read-family : tie.Need-shared-slice-read-family Inv-loop μ-loop
+shared-slice-read-family c =
+    let d = c .before .before in
+    let i = d .before .before .before .before .before .before in
+    let a = i .before .before .before .before in
+    let w = known _ (whole _ _ _ (a .args .count) (omega (arith, a .pre .0, a .pre .4)) (a .pre .2) _ _ _ _ (i .before .loop .inv .1) (omega (arith, i .loop-test .taken, a .pre .3))) in
+    omega (arith, ap length (d .before .before .before .before .record-at .ensures), w .long)
+
+add-i : tie.Need-add-i Inv-loop μ-loop
+add-i c = search needs
+
+loop-less : tie.Need-loop-less Inv-loop μ-loop
+loop-less c = search needs
+
+loop-again : tie.Need-loop-again Inv-loop μ-loop
+loop-again c =
+    let d = c .before .before in
+    let i = d .before .before .before .before .before .before in
+    let a = i .before .before .before .before in
+    let e = d .before .before .before .before .record-at .ensures in
+    let w = known _ (whole _ _ _ (a .args .count) (omega (arith, a .pre .0, a .pre .4)) (a .pre .2) _ _ _ _ (i .before .loop .inv .1) (omega (arith, i .loop-test .taken, a .pre .3))) in
+    (omega (arith, i .loop-test .taken),
+    scan-on _ _ _ (a .args .count) (omega (arith, a .pre .0, a .pre .4)) (a .pre .2) _ _ _ _ (i .before .loop .inv .1) (omega (arith, i .loop-test .taken, a .pre .3)) (omega (arith, i .loop-test .taken, a .pre .1)) _ (placed (d .before .before)) _ (d .d .given .1) _ (ap (λ (s : List ℕ). getD s 0 0) e ∙ w .tag-is))
+
+enum-told : tie.Need-enum-told Inv-loop μ-loop
+enum-told c = search needs
+
+returns : tie.Need-returns Inv-loop μ-loop
+returns c =
+    let p = c .before .before in
+    let i = p .before .before .before .before in
+    let a = i .before .before .before .before in
+    overlap-here _ _ _ (i .loop-test .taken) (scan-crossing _ _ _ (a .args .count) (omega (arith, a .pre .0, a .pre .4)) (a .pre .2) _ _ _ _ (i .before .loop .inv .1) (omega (arith, i .loop-test .taken, a .pre .3)) (omega (arith, i .loop-test .taken, a .pre .1)) _ (placed p) (c .enum-told .given .1))
+
+returns-2 : tie.Need-returns-2 Inv-loop μ-loop
+returns-2 c =
+    let l = c .before .loop in
+    overlap-none _ _ _ _ _ _ _ _ (l .inv .1) (omega (arith, l .inv .0, c .loop-test .left))
+
+pub first-overlap-spec : {M : Type 1} → statement M
+first-overlap-spec =
+    tie.close
+    (tie.spec
+    Inv-loop
+    μ-loop
+    loop-holds
+    mul-place
+    element-copy-out-place
+    record-at-requires
+    place-of-requires
+    enum-known-d
+    mul-stack
+    array-write-stack
+    add-depth
+    shared-slice-read-family
+    add-i
+    loop-less
+    loop-again
+    enum-told
+    returns
+    returns-2)

@@ -1,0 +1,246 @@
+// A change file folded into an image: the final image judged, and written to a lent buffer.
+ghost use mathlib.Core.Path.{_≡_};
+ghost use mathlib.Core.Bool.{true};
+ghost use mathlib.Core.List.{_++_};
+ghost use Prim.Native.Nat.{_+_, _≤_};
+ghost use lib.ListN.{length, take};
+ghost use Rattle.image.specs.Image.{startsRight, imageOf};
+ghost use Rattle.image.specs.Place.{verdictOf};
+ghost use Rattle.listing.specs.Writing.{Written};
+ghost use Rattle.rows.specs.Entry.{rowOf};
+ghost use Rattle.changes.specs.Fold.{badImage, badChange, foldOf};
+ghost use Rattle.merged.specs.Held.{parsedFrom, entriesAt, Recorded, Held};
+ghost use Rattle.fold.specs.Overlaps.{OpenBlocks, NestedIn, PlacedIn, Overlaps};
+ghost use Rattle.fold.specs.Call.{foldedOf, outAfter, counting, Gives, Finished};
+use address::numbers_at_most;
+use applying::Applied;
+use applying::apply;
+use image::Verdict;
+use image::check;
+use listing::put_bytes;
+use merged::places_of;
+use merged::record_at;
+use merged::size_of;
+use records::width_of;
+
+// Where a block goes: under so many open blocks, or it overlaps one of them without lying inside it.
+enum Nesting {
+    Under(usize),
+    Crossing,
+}
+
+// The block r among the open blocks of its tag, the innermost last.
+fn nest<'a>(image: &'a [u8], changes: &'a [u8], r: &[u8], stack: &[u32; 4096], depth: usize) -> Nesting
+    requires { ⌜ (depth ≤ 4096) × Recorded (now r) × (parsedFrom (now r) .tag ≤ 18) × OpenBlocks (now image) (now changes) (now stack) depth (parsedFrom (now r) .tag) ⌝ }
+    ensures { λ x. ⌜ NestedIn (now (image .entry)) (now (changes .entry)) (parsedFrom (now (r .entry))) (now (stack .entry)) depth x ⌝ }
+{
+    let width = width_of(r[0]);
+    let mut d = depth;
+    while 0 < d {
+        let open = record_at(image, changes, stack[d - 1]);
+        if numbers_at_most(r, 6, open, 6 + width, width) {
+            if numbers_at_most(r, 6 + width, open, 6 + width, width) {
+                return Nesting::Under(d);
+            }
+            return Nesting::Crossing;
+        }
+        d -= 1;
+    }
+    Nesting::Under(0)
+}
+
+// The record r after one of the tag `before`: only a block after a block of its tag is nested.
+fn place_of<'a>(
+    image: &'a [u8],
+    changes: &'a [u8],
+    r: &[u8],
+    stack: &[u32; 4096],
+    before: u8,
+    depth: usize,
+) -> Nesting
+    requires { ⌜ (depth ≤ 4096) × Recorded (now r)
+        × (before ≡ parsedFrom (now r) .tag → before ≤ 18 → OpenBlocks (now image) (now changes) (now stack) depth before) ⌝ }
+    ensures { λ x. ⌜ PlacedIn (now (image .entry)) (now (changes .entry)) (parsedFrom (now (r .entry))) (now (stack .entry)) before depth x ⌝ }
+{
+    if 0x12 < r[0] {
+        return Nesting::Under(0);
+    }
+    if r[0] != before {
+        return Nesting::Under(0);
+    }
+    nest(image, changes, r, stack, depth)
+}
+
+// The number of the first of the first n records that overlaps an earlier one; n if none does.
+fn first_overlap<'a>(
+    image: &'a [u8],
+    changes: &'a [u8],
+    index: &[u32; 9600],
+    count: usize,
+    n: usize,
+) -> usize
+    requires { ⌜ (length (now index) ≡ 9600) × (n ≤ 4096) × Held (now image) (now changes) (take count (now index)) × (n ≤ count) × (count ≤ 9600) ⌝ }
+    ensures { λ r. ⌜ Overlaps (entriesAt (now (image .entry)) (now (changes .entry)) (take count (now (index .entry)))) n r ⌝ }
+{
+    let mut stack = [0u32; 4096];
+    let mut depth: usize = 0;
+    let mut family: u8 = 0;
+    let mut i: usize = 0;
+    while i < n {
+        let place = index[i];
+        let r = record_at(image, changes, place);
+        match place_of(image, changes, r, &stack, family, depth) {
+            Nesting::Under(d) => {
+                stack[d] = place;
+                depth = d + 1;
+                family = r[0];
+                i += 1;
+            }
+            Nesting::Crossing => return i,
+        }
+    }
+    n
+}
+
+// The verdict on the final image of so many bytes.
+fn final_verdict<'a>(
+    image: &'a [u8],
+    changes: &'a [u8],
+    index: &[u32; 9600],
+    n: usize,
+    size: usize,
+) -> Verdict
+    requires { ⌜ (length (now index) ≡ 9600) × (n ≤ 9600) × Held (now image) (now changes) (take n (now index)) × (startsRight (now image) ≡ true)
+        × (size ≡ 4 + length (rowOf (entriesAt (now image) (now changes) (take n (now index))))) ⌝ }
+    ensures { λ r. ⌜ r ≡ verdictOf (imageOf (take 4 (now (image .entry)) ++ rowOf (entriesAt (now (image .entry)) (now (changes .entry)) (take n (now (index .entry)))))) ⌝ }
+{
+    if 262144 < size {
+        return Verdict::Defective(1, 0);
+    }
+    let few = if n < 4096 { n } else { 4096 };
+    let k = first_overlap(image, changes, index, n, few);
+    if k < few {
+        return Verdict::Defective(7, k as u32);
+    }
+    if 4096 < n {
+        return Verdict::Defective(3, 4096);
+    }
+    Verdict::Sound(n as u32)
+}
+
+// The records one after another.
+fn put_records<'a>(
+    image: &'a [u8],
+    changes: &'a [u8],
+    index: &[u32; 9600],
+    n: usize,
+    out: &mut [u8],
+) -> usize
+    requires { ⌜ (length (now index) ≡ 9600) × (n ≤ 9600) × (length (rowOf (entriesAt (now image) (now changes) (take n (now index)))) ≤ length (now out)) ⌝ }
+    ensures { λ r. ⌜ Written (rowOf (entriesAt (now (image .entry)) (now (changes .entry)) (take n (now (index .entry))))) (now (out .entry)) (now (out .exit)) r ⌝ }
+{
+    let mut at: usize = 0;
+    let mut i: usize = 0;
+    while i < n {
+        let r = record_at(image, changes, index[i]);
+        put_bytes(r, &mut out[at..]);
+        at += r.len();
+        i += 1;
+    }
+    at
+}
+
+pub struct Folded {
+    pub reason: u32,
+    pub count: u32,
+    pub defect: u32,
+    pub place: u32,
+    pub offset: u32,
+}
+
+fn bad_image(reason: u32, defect: u32, place: u32) -> Folded
+    ensures { λ r. ⌜ r ≡ foldedOf (badImage reason defect place) ⌝ }
+{
+    Folded {
+        reason,
+        count: 0,
+        defect,
+        place,
+        offset: 0,
+    }
+}
+
+fn bad_change(offset: u32) -> Folded
+    ensures { λ r. ⌜ r ≡ foldedOf (badChange offset) ⌝ }
+{
+    Folded {
+        reason: 11,
+        count: 0,
+        defect: 0,
+        place: 0,
+        offset,
+    }
+}
+
+fn counted(reason: u32, count: u32) -> Folded
+    ensures { λ r. ⌜ r ≡ counting reason count ⌝ }
+{
+    Folded {
+        reason,
+        count,
+        defect: 0,
+        place: 0,
+        offset: 0,
+    }
+}
+
+fn finish<'a>(
+    image: &'a [u8],
+    changes: &'a [u8],
+    index: &[u32; 9600],
+    n: usize,
+    out: &mut [u8],
+) -> Folded
+    requires { ⌜ (length (now index) ≡ 9600) × (n ≤ 9600) × Held (now image) (now changes) (take n (now index)) × (startsRight (now image) ≡ true)
+        × (length (now image) ≤ 262144) × (length (now changes) ≤ 65536) ⌝ }
+    ensures { λ r. ⌜ Finished (take 4 (now (image .entry)) ++ rowOf (entriesAt (now (image .entry)) (now (changes .entry)) (take n (now (index .entry)))))
+        (now (out .entry)) (now (out .exit)) r ⌝ }
+{
+    let size = 4 + size_of(image, changes, index, n);
+    let verdict = final_verdict(image, changes, index, n, size);
+    if let Verdict::Defective(defect, place) = verdict {
+        return bad_image(12, defect, place);
+    }
+    if out.len() < size {
+        return counted(9, size as u32);
+    }
+    put_bytes(&image[..4], out);
+    let rest = put_records(image, changes, index, n, &mut out[4..]);
+    counted(0, (4 + rest) as u32)
+}
+
+// The changes applied to a sound image of so many records.
+fn fold_sound<'a>(image: &'a [u8], changes: &'a [u8], count: usize, out: &mut [u8]) -> Folded
+    requires { ⌜ verdictOf (imageOf (now image)) ≡ Verdict.Sound count ⌝ }
+    ensures { λ r. ⌜ Gives (foldOf (now (image .entry)) (now (changes .entry)) (length (now (out .entry)))) (now (out .entry)) (now (out .exit)) r ⌝ }
+{
+    if 65536 < changes.len() {
+        return bad_change(0);
+    }
+    let mut index = [0u32; 9600];
+    places_of(image, &mut index, count);
+    match apply(image, changes, &mut index, count) {
+        Applied::RefusedAt(offset) => bad_change(offset as u32),
+        Applied::Done(n) => finish(image, changes, &index, n, out),
+    }
+}
+
+pub fn fold<'a>(image: &'a [u8], changes: &'a [u8], out: &mut [u8]) -> Folded
+    ensures { λ r. ⌜ r ≡ foldedOf (foldOf (now (image .entry)) (now (changes .entry)) (length (now (out .entry)))) ⌝ }
+    ensures { λ r. ⌜ now (out .exit) ≡ outAfter (foldOf (now (image .entry)) (now (changes .entry)) (length (now (out .entry)))) (now (out .entry)) ⌝ }
+{
+    match check(image) {
+        Verdict::Defective(defect, place) => bad_image(2, defect, place),
+        Verdict::Sound(count) => fold_sound(image, changes, count as usize, out),
+    }
+}

@@ -1,0 +1,54 @@
+-- The bytes at a place, and what stands at the start of a row.
+use mathlib.Core.Path.{_≡_, refl, sym, _∙_, ap}
+use mathlib.Core.Bool.{Bool, true, false, cond}
+use mathlib.Core.List.{List, []}
+use Prim.Native.Nat.{ℕ, _+_, _-_, _≤_, _<_}
+use native.Mathlib.Omega.{arith}
+use native.Mathlib.Nat.{le-refl}
+use borrow.Author.Tests.{lt-ltb, le-ltb, ltb-true, ltb-false}
+use lib.Dec.{ltb}
+use lib.ListN.{length, getD, take, drop}
+use lib.Seq.{slice, take-length, take-all}
+use Rattle.fields.specs.Field.{Head, field, short, headOf}
+use Rattle.fields.specs.Place.{fieldAt, headAt, FieldInside}
+use Rattle.fields.specs.Heads.{head-slice, field-inside}
+use Rattle.fields.specs.Slices.{part-slice}
+use Rattle.fields.specs.declared.Field.{Field}
+use Rattle.fields.specs.declared.Field.the-variants.{Whole, Short}
+use Rattle.merged.specs.Held.{bytesFrom, fieldBytes, bytesAt}
+
+-- the whole slice as a part
+pub whole-part : (s : List ℕ) (at : ℕ) → slice at (length s) s ≡ drop at s
+whole-part s at = ap (λ (l : List ℕ). drop at l) (take-length s)
+
+module _ (s : List ℕ) (at : ℕ) (f : Field) (e : f ≡ fieldAt s at (length s)) where
+  pub bytes-short : f ≡ Short → [] ≡ fieldBytes s at
+  bytes-short g = ap (bytesFrom s at) (sym g ∙ e)
+
+  pub head-short : at ≤ length s → f ≡ Short → headOf (drop at s) ≡ short
+  head-short h g =
+      rw (← whole-part s at) (sym (head-slice s at (length s) h (le-refl _)) ∙ ap (headAt s (length s)) (sym e ∙ g))
+
+  module _ (tag a b : ℕ) (g : f ≡ Whole tag a b) where
+    pub bytes-inside : FieldInside at (length s) a b
+    bytes-inside = field-inside s at (length s) tag a b (sym e ∙ g)
+
+    pub bytes-whole : take (b - at) (drop at s) ≡ fieldBytes s at
+    bytes-whole =
+        let i = bytes-inside in
+        part-slice at b s (omega (arith, i .after, i .forward)) ∙ ap (bytesFrom s at) (sym g ∙ e)
+
+    pub head-whole : headOf (drop at s) ≡ field tag (slice a b s) (drop b s)
+    head-whole =
+        let i = bytes-inside in
+        let h : at ≤ length s = omega (arith, i .after, i .forward, i .within) in
+        rw (← whole-part s at, ← whole-part s b) (sym (head-slice s at (length s) h (le-refl _)) ∙ ap (headAt s (length s)) (sym e ∙ g))
+
+module _ (image changes x : List ℕ) (place : ℕ) where
+  pub place-image : place < 262144 → x ≡ fieldBytes image place → x ≡ bytesAt image changes place
+  unfolding bytesAt
+  place-image h e = rw (lt-ltb place 262144 h) e
+
+  pub place-changes : 262144 ≤ place → x ≡ fieldBytes changes (place - 262144) → x ≡ bytesAt image changes place
+  unfolding bytesAt
+  place-changes h e = rw (le-ltb place 262144 h) e

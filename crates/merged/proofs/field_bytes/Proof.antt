@@ -1,0 +1,61 @@
+-- The part is what the definition takes of the field that stands there (Fields.antt).
+use borrow.Author.Needs.{needs}
+use mathlib.Core.Path.{_≡_, refl, sym, _∙_, ap}
+use mathlib.Core.Bool.{Bool, true, false, cond, not}
+use mathlib.Core.List.{List, [], _∷_, _++_}
+use Prim.Native.Nat.{ℕ, zero, suc, _+_, _-_, _*_, _≤_, _<_}
+use native.Mathlib.Omega.{arith}
+use lib.ListN.{length, getD, take, drop}
+use denote.Ref.{now}
+use Rattle.merged.proofs.Fields.{bytes-inside, bytes-short, bytes-whole}
+use Rattle.merged.proofs.field_bytes.Statement.{statement}
+use Rattle.merged.proofs.field_bytes.Tie as tie
+
+step-at-requires : tie.Need-step-at-requires
+step-at-requires c κs = search needs
+
+enum-known-end : tie.Need-enum-known-end
+enum-known-end c = search needs
+
+sub-result : tie.Need-sub-result
+sub-result c = let i = bytes-inside _ _ _ (c .before .before .before .step-at .ensures) _ _ _ (c .before .end .given .1) in omega (arith, i .after, i .forward)
+
+part-result-start : tie.Need-part-result-start
+part-result-start c = let i = bytes-inside _ _ _ (c .before .before .before .step-at .ensures) _ _ _ (c .before .end .given .1) in omega (arith, i .after, i .forward)
+
+part-result-end : tie.Need-part-result-end
+part-result-end c = let i = bytes-inside _ _ _ (c .before .before .before .step-at .ensures) _ _ _ (c .before .end .given .1) in omega (arith, i .within)
+
+enum-told : tie.Need-enum-told
+enum-told c = search needs
+
+sub-result-2 : tie.Need-sub-result-2
+sub-result-2 c = search needs
+
+part-result-start-2 : tie.Need-part-result-start-2
+part-result-start-2 c = search needs
+
+part-result-end-2 : tie.Need-part-result-end-2
+part-result-end-2 c = search needs
+
+returns : tie.Need-returns
+returns c = bytes-whole _ _ _ (c .before .before .before .before .step-at .ensures) _ _ _ (c .before .before .end .given .1)
+
+returns-2 : tie.Need-returns-2
+returns-2 c = bytes-short _ _ _ (c .before .before .before .step-at .ensures) (c .before .enum-told .given .1)
+
+pub field-bytes-spec : {M : Type 1} → statement M
+field-bytes-spec =
+    tie.close
+    (tie.spec
+    step-at-requires
+    enum-known-end
+    sub-result
+    part-result-start
+    part-result-end
+    enum-told
+    sub-result-2
+    part-result-start-2
+    part-result-end-2
+    returns
+    returns-2)
