@@ -12,13 +12,13 @@ use Rattle.image.specs.Image.{Image, sound, defective, imageOf}
 use Rattle.image.specs.Part.{recordsOf}
 use Rattle.image.specs.Entries.{spanOf, PartSpan}
 use Rattle.image.specs.declared.Which.{Which}
-use Rattle.image.proofs.Soundness.{few}
+use Rattle.image.proofs.Soundness.{opens}
 
 with-record : (s : List ℕ) (n : ℕ) → n < length (recordsOf (imageOf s)) → length s ≤ 262144
 with-record s n h = go (imageOf s) refl h
   where
     go : (i : Image) → imageOf s ≡ i → n < length (recordsOf i) → length s ≤ 262144
-    go (sound records) e k = few s records e .1
+    go (sound records) e k = opens s records e .few-bytes
     go (defective d p) e k = absurd (omega (arith, k))
 
 pub end-small : {s : List ℕ} {n : ℕ} {which : Which} {r : Span} → PartSpan s n which r → r .end ≤ 262144

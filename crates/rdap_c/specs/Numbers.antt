@@ -1,9 +1,10 @@
--- What the C functions write: the numbers of a reply (S3.1), those of a part of the image, and those of the prefixes of a range.
+-- What the C functions write: the numbers of a reply (S3.1), of a part of the image, of the prefixes of a range, and of a fold.
 use Prim.Native.Nat.{ℕ, _-_}
 use mathlib.Core.List.{List, [], _∷_}
 use Rattle.records.specs.declared.Span.{Span}
 use Rattle.answers.specs.Reply.{Reply}
 use Rattle.prefixes.specs.declared.Prefixed.{Prefixed}
+use Rattle.changes.specs.Fold.{Folding}
 
 -- status, reason, kind, relation, count, defect, place
 unfoldable pub numbersOf : Reply → List ℕ
@@ -16,3 +17,7 @@ partNumbers span = span .start ∷ (span .end - span .start) ∷ []
 -- reason, count
 unfoldable pub prefixedNumbers : Prefixed → List ℕ
 prefixedNumbers a = a .reason ∷ a .count ∷ []
+
+-- reason, count, defect, place, offset
+unfoldable pub foldingNumbers : Folding → List ℕ
+foldingNumbers f = f .reason ∷ f .count ∷ f .defect ∷ f .place ∷ f .offset ∷ []

@@ -8,7 +8,9 @@ ghost use Rattle.calls.specs.Calls.{answerOf, relationOf};
 ghost use Rattle.batch.specs.Batch.{batchOf};
 ghost use Rattle.answers.specs.Answered.{replyOf};
 ghost use Rattle.prefixes.specs.Call.{ipRangeOf, prefixedOf, bufferAfter};
-ghost use Rattle.rdap_c.specs.Numbers.{numbersOf, partNumbers, prefixedNumbers};
+ghost use Rattle.changes.specs.Fold.{foldOf};
+ghost use Rattle.fold.specs.Call.{outAfter};
+ghost use Rattle.rdap_c.specs.Numbers.{numbersOf, partNumbers, prefixedNumbers, foldingNumbers};
 use answers::Answer;
 use image::Which;
 use query::Relation;
@@ -143,4 +145,19 @@ pub extern "C" fn rdap_prefixes(range: &[u8], out: &mut [u8], reply: &mut [u32; 
     let reason = a.reason;
     let count = a.count;
     *reply = [reason, count];
+}
+
+// A change file folded into an image, to the front of the buffer.
+#[no_mangle]
+pub extern "C" fn rdap_fold<'a>(image: &'a [u8], changes: &'a [u8], out: &mut [u8], reply: &mut [u32; 5])
+    ensures { λ _. ⌜ now (reply .exit) ≡ foldingNumbers (foldOf (now (image .entry)) (now (changes .entry)) (length (now (out .entry)))) ⌝ }
+    ensures { λ _. ⌜ now (out .exit) ≡ outAfter (foldOf (now (image .entry)) (now (changes .entry)) (length (now (out .entry)))) (now (out .entry)) ⌝ }
+{
+    let a = rdap::fold(image, changes, out);
+    let reason = a.reason;
+    let count = a.count;
+    let defect = a.defect;
+    let place = a.place;
+    let offset = a.offset;
+    *reply = [reason, count, defect, place, offset];
 }
