@@ -1,31 +1,29 @@
 -- A change applied to the index, and the changes of a file one after another.
-use mathlib.Core.Path.{_≡_, refl, sym, _∙_, ap, subst}
-use mathlib.Core.Bool.{Bool, true, false, cond, not, false≢true}
+use mathlib.Core.Path.{_≡_, refl, sym, _∙_, ap}
+use mathlib.Core.Bool.{Bool, true, false, not, false≢true}
 use mathlib.Core.List.{List, [], _∷_, _++_, map}
-use mathlib.Core.Option.{Option, none, some}
+use mathlib.Core.Option.{none, some}
 use Prim.Native.Nat.{ℕ, zero, suc, _+_, _-_, _*_, _≤_, _<_}
 use native.Mathlib.Omega.{arith}
 use borrow.Author.Tests.{le-ltb, ltb-true, ltb-false}
 use lib.Dec.{ltb}
-use lib.ListN.{length, getD, take, drop, length-append, length-take, length-drop, take-append-drop, drop-of-length-le}
-use lib.Seq.{slice, length-slice, take-take, drop-drop}
+use lib.ListN.{length, getD, take, drop, length-drop, take-append-drop, drop-of-length-le}
+use lib.Seq.{slice, length-slice, take-take}
 use Rattle.fields.specs.Field.{Head, field, short, headOf}
 use Rattle.fields.specs.Slices.{part-slice}
 use Rattle.records.specs.Record.{Record}
-use Rattle.rows.specs.Entry.{Entry, parsedOf}
-use Rattle.rows.specs.Good.{AllGood}
-use Rattle.rows.specs.Ordered.{Ordered}
+use Rattle.rows.specs.Entry.{Entry}
 use Rattle.fields.proofs.Starts.{starts}
 use Rattle.changes.specs.Change as Changes
-use Rattle.changes.specs.Change.{keyed, changeOf, isThere, insert, without, applied, Changed, done, refusedAt, later, afterApplied, changesFrom, changesOf}
+use Rattle.changes.specs.Change.{keyed, changeOf, isThere, applied, done, refusedAt, later, afterApplied, changesFrom, changesOf}
 use Rattle.changes.specs.Rank.{rankOf, startsWith}
 use Rattle.changes.proofs.Ranks.{insert-at, there-at, without-at, rank-length}
 use Rattle.changes.proofs.Files.{later-zero, later-later, change-end, change-cut, change-step}
 use Rattle.changes.proofs.Applying.{good-step}
 use Rattle.changes.proofs.Ordered.{ordered-step}
-use Rattle.merged.specs.Held.{fieldBytes, bytesAt, parsedFrom, entryOf, entriesAt, Recorded, Held, bareKey, Key}
+use Rattle.merged.specs.Held.{bytesAt, parsedFrom, entryOf, entriesAt, Recorded, Held, bareKey}
 use Rattle.applying.specs.Steps.{changeIn, Stated, ChangeAt, AppliedTo}
-use Rattle.applying.specs.declared.Change.the-variants.{Add, Remove, Malformed}
+use Rattle.applying.specs.declared.Change.the-variants.{Malformed}
 use Rattle.applying.specs.declared.Applied.the-variants.{Done, RefusedAt}
 use Rattle.merged.proofs.Known.{known, nine}
 use Rattle.merged.proofs.Keys.{keyed-is, rank-key, there-key}

@@ -1,34 +1,32 @@
 -- One change of a file, test by test.
-use mathlib.Core.Path.{_≡_, refl, sym, _∙_, ap, subst}
+use mathlib.Core.Path.{_≡_, refl, sym, _∙_, ap}
 use mathlib.Core.Bool.{Bool, true, false, cond, _&&_, false≢true}
 use mathlib.Core.List.{List, [], _∷_}
 use Prim.Native.Nat.{ℕ, suc, _+_, _-_, _*_, _≤_, _<_}
 use native.Mathlib.Omega.{arith}
-use native.Mathlib.Nat.{le-refl}
 use borrow.Author.Tests.{le-leb, lt-leb, leb-true, eq-eqb, ne-eqb, eqb-true}
-use lib.Dec.{leb, eqb}
+use lib.Dec.{leb}
 use lib.ListN.{length, getD, take, drop, length-drop, drop-of-length-le}
-use lib.Seq.{slice, take-all, drop-cons, take-length, slice-cons, length-slice}
-use Rattle.address.specs.Ranges.{rangeFrom, wellFormed}
+use lib.Seq.{slice, take-all, drop-cons, slice-cons, length-slice}
+use Rattle.address.specs.Ranges.{wellFormed}
 use Rattle.address.specs.Positions.{numberIn}
-use Rattle.fields.specs.Field.{field, short, headOf}
+use Rattle.fields.specs.Field.{field, headOf}
 use Rattle.fields.specs.Place.{fieldAt}
 use Rattle.fields.specs.declared.Field.{Field}
 use Rattle.fields.specs.declared.Field.the-variants.{Whole, Short}
 use Rattle.name.specs.Texts.{goodText, goodHost}
-use Rattle.records.specs.Record.{Record, isBlock, isKnown, widthOf, goodName}
-use Rattle.records.specs.Judge.{Judged, bad, good, inOrder, crossesAny, judgeOverlap, judge}
-use Rattle.records.specs.Layout.{layoutOf, recordOn, Readable, Judging}
+use Rattle.records.specs.Record.{Record, isKnown, widthOf, goodName}
+use Rattle.records.specs.Judge.{bad, good, inOrder, crossesAny, judgeOverlap, judge}
+use Rattle.records.specs.Layout.{layoutOf, recordOn, Judging}
 use Rattle.records.specs.declared.Judgement.{Judgement}
 use Rattle.records.specs.declared.Judgement.the-variants.{Good, Bad}
 use Rattle.records.proofs.Shapes.{no-block, a-block}
 use Rattle.image.specs.Place.{goodBlock}
 use Rattle.image.proofs.Judged.{judged-on}
-use Rattle.rows.specs.Entry.{entry}
 use Rattle.changes.specs.Change as Changes
-use Rattle.changes.specs.Change.{keyed, goodKey, addJudged, addOf, removeOf, changeOf}
-use Rattle.merged.specs.Held.{parsedFrom, recordIn, entryOf, Recorded, Key}
-use Rattle.applying.specs.Steps.{Addition, Removal, changeIn, Stated, ChangeAt}
+use Rattle.changes.specs.Change.{keyed, goodKey, changeOf}
+use Rattle.merged.specs.Held.{parsedFrom, entryOf}
+use Rattle.applying.specs.Steps.{Addition, Removal, Stated, ChangeAt}
 use Rattle.applying.specs.declared.Change.the-variants.{Add, Remove, Malformed}
 use Rattle.merged.proofs.Fields.{bytes-inside, head-short, head-whole}
 

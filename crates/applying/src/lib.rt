@@ -168,7 +168,12 @@ pub enum Applied {
     RefusedAt(usize),
 }
 
-pub fn apply<'a>(image: &'a [u8], changes: &'a [u8], index: &mut [u32; 9600], count: usize) -> Applied
+pub fn apply<'a>(
+    image: &'a [u8],
+    changes: &'a [u8],
+    index: &mut [u32; 9600],
+    count: usize,
+) -> Applied
     requires { ⌜ (length (now index) ≡ 9600) × (count ≤ 4096) × (length (now changes) ≤ 65536) × Held (now image) (now changes) (take count (now index)) ⌝ }
     ensures { λ r. ⌜ AppliedTo (now (image .entry)) (now (changes .entry))
         (entriesAt (now (image .entry)) (now (changes .entry)) (take count (now (index .entry)))) (now (index .exit)) r

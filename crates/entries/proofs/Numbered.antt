@@ -1,12 +1,10 @@
 -- The records of a sound image one after another: a reader that has passed n fields stands at record n, since what is left of the image
 -- after each record is sound too (`Passed`), and finds the field of that record there (`stands-here`).
 use mathlib.Core.Path.{_≡_, refl, sym, _∙_, ap}
-use mathlib.Core.Bool.{Bool, true, false, cond}
 use mathlib.Core.List.{List, [], _∷_, _++_, reverse, reverse-cons}
 use Prim.Native.Nat.{ℕ, zero, suc, _+_, _-_, _≤_, _<_}
 use native.Mathlib.Omega.{arith}
 use native.Mathlib.Nat.{le-refl}
-use lib.Dec.{leb}
 use lib.ListN.{length, take, drop, getD, length-reverse}
 use lib.Seq.{slice, take-length, take-take, take-at, drop-cons, getD-take, getD-at}
 use Rattle.fields.specs.Field.{Head, field, short, headOf}
@@ -17,7 +15,7 @@ use Rattle.fields.specs.declared.Field.the-variants.{Whole, Short}
 use Rattle.records.specs.Record.{Record}
 use Rattle.records.specs.Judge.{Judged, bad, good, judge, judgeAlone}
 use Rattle.records.proofs.Accepted.{Accepted, alone-good, overlap-good}
-use Rattle.image.specs.Image.{Image, sound, defective, nextOf, afterJudged, afterNext, imageFrom, imageOf, startsRight}
+use Rattle.image.specs.Image.{Image, sound, defective, nextOf, afterJudged, afterNext, imageFrom, imageOf}
 use Rattle.image.specs.Part.{recordsOf}
 use Rattle.image.specs.Entries.{placeOf}
 use Rattle.image.proofs.Walk.{start-length}

@@ -1,13 +1,12 @@
 -- The final judgement, and the answers of the call.
 use mathlib.Core.Path.{_≡_, refl, sym, _∙_, ap, subst}
 use mathlib.Core.Bool.{Bool, true, false, cond}
-use mathlib.Core.List.{List, [], _∷_, _++_, append-assoc}
+use mathlib.Core.List.{List, [], _∷_, _++_}
 use Prim.Native.Nat.{ℕ, zero, suc, _+_, _-_, _≤_, _<_}
 use native.Mathlib.Omega.{arith}
 use borrow.Author.Tests.{le-leb, lt-leb}
 use lib.Dec.{leb}
 use lib.ListN.{length, take, drop, length-append, length-reverse, length-drop, drop-of-length-le}
-use lib.Seq.{length-take-le, take-all, drop-drop}
 use borrow.Rule.Slice.PartMut.{putMid}
 use Rattle.records.specs.Record.{Record}
 use Rattle.image.specs.Image.{Image, sound, defective, imageFrom, startsRight, imageOf}
@@ -15,7 +14,7 @@ use Rattle.image.specs.Part.{recordsOf}
 use Rattle.image.specs.Place.{verdictOf}
 use Rattle.image.specs.declared.Verdict.{Verdict}
 use Rattle.image.specs.declared.Verdict.the-variants.{Sound, Defective}
-use Rattle.image.proofs.Walk.{from-end, from-full, start-length}
+use Rattle.image.proofs.Walk.{from-end, from-full}
 use Rattle.rows.specs.Entry.{Entry, entriesOf, rowOf}
 use Rattle.rows.specs.Good.{AllGood, good-cons}
 use Rattle.fields.proofs.Starts.{starts}
@@ -23,12 +22,12 @@ use Rattle.rows.proofs.Images.{length-of, image-of, entries-good}
 use Rattle.rows.proofs.Rows.{parsed-entries}
 use Rattle.rows.proofs.Ordering.{sound-ordered}
 use Rattle.merged.specs.Held.{entriesAt, Held}
-use Rattle.changes.specs.Change.{Changed, done, refusedAt, changesOf}
-use Rattle.changes.specs.Fold.{Folding, badImage, badChange, noRoom, fits, finished, afterChanges, afterImage, foldOf}
+use Rattle.changes.specs.Change.{done, refusedAt, changesOf}
+use Rattle.changes.specs.Fold.{badImage, badChange, noRoom, fits, finished, afterChanges, foldOf}
 use Rattle.listing.specs.Writing.{Written}
 use Rattle.listing.proofs.Writing.{written-both}
-use Rattle.fold.specs.Overlaps.{AllPassed, Overlaps}
-use Rattle.fold.specs.Call.{foldedOf, counting, outAfter, Gives}
+use Rattle.fold.specs.Overlaps.{Overlaps}
+use Rattle.fold.specs.Call.{foldedOf, counting, Gives}
 use Rattle.fold.specs.declared.Folded.{Folded}
 
 -- The verdict on the start of an image and a row of entries

@@ -1,9 +1,9 @@
 -- One pass over the records for overlaps: the open blocks stand for the earlier ones.
 use mathlib.Core.Path.{_≡_, refl, sym, _∙_, ap, subst}
-use mathlib.Core.Bool.{Bool, true, false, cond, not}
-use mathlib.Core.Logic.{_⊎_, inl, inr}
+use mathlib.Core.Bool.{Bool, true, false, cond}
+use mathlib.Core.Logic.{inl, inr}
 use mathlib.Core.List.{List, [], _∷_, _++_, map}
-use Prim.Native.Nat.{ℕ, zero, suc, _+_, _-_, _*_, _≤_, _<_}
+use Prim.Native.Nat.{ℕ, zero, suc, _+_, _-_, _≤_, _<_}
 use native.Mathlib.Omega.{arith}
 use native.Mathlib.Nat.{le-refl, le-trans}
 use native.Mathlib.Numerals.{add-one}
@@ -12,23 +12,22 @@ use lib.Dec.{leb, eqb}
 use lib.ListN.{length, getD, take, drop, set, length-set}
 use lib.Seq.{getD-set-same, getD-set-other}
 use Rattle.records.specs.Record.{Record, isBlock, firstOf, lastOf, follows}
-use Rattle.records.specs.Judge.{Judged, bad, good, inOrder, crossesAny, judge}
+use Rattle.records.specs.Judge.{bad, good, inOrder, crossesAny, judge}
 use Rattle.records.proofs.Shapes.{a-block, no-block}
 use Rattle.records.proofs.Accepted.{After, follows-after}
-use Rattle.image.specs.Image.{Image, defective, afterJudged, afterNext, imageFrom}
+use Rattle.image.specs.Image.{defective, afterJudged, afterNext, imageFrom}
 use Rattle.image.proofs.Addresses.{low-family}
 use Rattle.image.proofs.Laminar.{Chain, openAt, sticksOut, open-chain, open-same, open-test, open-above, other-tag, no-crossing}
 use Rattle.rows.specs.Entry.{Entry, parsedOf, rowOf}
-use Rattle.rows.specs.Good.{GoodEntry, AllGood}
 use Rattle.rows.specs.Ordered.{AllAfter, after-cons, Ordered, ordered-cons}
 use Rattle.records.proofs.Judging.{judged-after}
 use Rattle.rows.proofs.Rows.{image-step, entry-head}
 use Rattle.merged.specs.Held.{bytesAt, parsedFrom, entryOf, entriesAt, Recorded, Held}
-use Rattle.fold.specs.Overlaps.{openIn, OpenBlocks, NestedIn, PlacedIn, AllPassed, Overlaps}
+use Rattle.fold.specs.Overlaps.{openIn, OpenBlocks, NestedIn, PlacedIn, Overlaps}
 use Rattle.fold.specs.declared.Nesting.{Nesting}
 use Rattle.fold.specs.declared.Nesting.the-variants.{Under, Crossing}
 use Rattle.merged.proofs.Known.{known, first-at-most}
-use Rattle.merged.proofs.Ranks.{count-is, entry-at, recorded-at}
+use Rattle.merged.proofs.Ranks.{entry-at, recorded-at}
 
 -- the record before has the tag `before` and starts at `bound`
 pub record Open (image changes : List ℕ) (earlier : List Record) (before bound : ℕ) (stack : List ℕ) (depth : ℕ) : Type 0 where
@@ -250,10 +249,10 @@ module _ (image changes index : List ℕ) (count : ℕ) (k : count ≤ length in
         let z : 4096 - i ≡ suc (4096 - (i + 1)) = omega arith in
         let w = whole in
         let a : imageFrom (4096 - i) (m .earlier) (rowOf (drop i es))
-            ≡ afterNext (m .earlier) (afterJudged (judge (m .earlier) (w .tag) (w .contents)) (rowOf (drop (suc i) es))) (λ r t. imageFrom (4096 - (i + 1)) (r ∷ m .earlier) t) =
-            rw (here, z) (image-step (m .earlier) (w .tag) (w .contents) (rowOf (drop (suc i) es)) (4096 - (i + 1)) (bytesAt image changes place ++ rowOf (drop (suc i) es)) (entry-head x w (rowOf (drop (suc i) es)))) in
+        ≡ afterNext (m .earlier) (afterJudged (judge (m .earlier) (w .tag) (w .contents)) (rowOf (drop (suc i) es))) (λ r t. imageFrom (4096 - (i + 1)) (r ∷ m .earlier) t) =
+        rw (here, z) (image-step (m .earlier) (w .tag) (w .contents) (rowOf (drop (suc i) es)) (4096 - (i + 1)) (bytesAt image changes place ++ rowOf (drop (suc i) es)) (entry-head x w (rowOf (drop (suc i) es)))) in
         let b : judge (m .earlier) (w .tag) (w .contents) ≡ cond true (cond (crossesAny (m .earlier) q) (bad 7) (good q)) (bad 6) =
-            judged-after [] (w .tag) (w .contents) q (w .alone) (m .earlier) ∙ rw (m .next x (drop (suc i) es) here .0) in
+        judged-after [] (w .tag) (w .contents) q (w .alone) (m .earlier) ∙ rw (m .next x (drop (suc i) es) here .0) in
         sym (a ∙ rw b (by-overlap (crossesAny (m .earlier) q))) ∙ m .rest
       where
         by-overlap : (t : Bool) → afterNext (m .earlier) (afterJudged (cond t (bad 7) (good q)) (rowOf (drop (suc i) es))) (λ r t. imageFrom (4096 - (i + 1)) (r ∷ m .earlier) t)

@@ -3,7 +3,7 @@ use mathlib.Core.Path.{_≡_}
 use mathlib.Core.List.{List, _++_}
 use Prim.Native.Nat.{ℕ}
 use lib.ListN.{length, drop}
-use Rattle.changes.specs.Fold.{Folding, finished, foldOf}
+use Rattle.changes.specs.Fold.{Folding, finished}
 use Rattle.image.specs.Image.{imageOf}
 use Rattle.fold.specs.declared.Folded.{Folded}
 

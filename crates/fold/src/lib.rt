@@ -30,7 +30,13 @@ enum Nesting {
 }
 
 // The block r among the open blocks of its tag, the innermost last.
-fn nest<'a>(image: &'a [u8], changes: &'a [u8], r: &[u8], stack: &[u32; 4096], depth: usize) -> Nesting
+fn nest<'a>(
+    image: &'a [u8],
+    changes: &'a [u8],
+    r: &[u8],
+    stack: &[u32; 4096],
+    depth: usize,
+) -> Nesting
     requires { ⌜ (depth ≤ 4096) × Recorded (now r) × (parsedFrom (now r) .tag ≤ 18) × OpenBlocks (now image) (now changes) (now stack) depth (parsedFrom (now r) .tag) ⌝ }
     ensures { λ x. ⌜ NestedIn (now (image .entry)) (now (changes .entry)) (parsedFrom (now (r .entry))) (now (stack .entry)) depth x ⌝ }
 {

@@ -1,11 +1,11 @@
 -- The records of a sound image are accepted one after another: what reading it shows of defects 5, 6 and 7.
 use Prim.Native.Nat.{ℕ, zero, suc}
-use mathlib.Core.Bool.{Bool, true, false, not, cond}
+use mathlib.Core.Bool.{not}
 use mathlib.Core.Path.{_≡_, refl, sym, subst, ap, _∙_}
 use mathlib.Core.List.{List, [], _∷_, reverseAux}
 use native.Mathlib.Omega.{arith}
-use lib.Dec.{T, leb}
-use lib.ListN.{length, drop}
+use lib.Dec.{T}
+use lib.ListN.{drop}
 use Rattle.fields.specs.Field.{Head, field, short, headOf}
 use Rattle.records.specs.Record.{Record, goodContents}
 use Rattle.records.specs.Judge.{Judged, bad, good, inOrder, crossesAny, judgeAlone, judge}

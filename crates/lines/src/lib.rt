@@ -1,8 +1,7 @@
 // The output line of a path: its text is written to the start of a lent buffer.
-ghost use mathlib.Core.Path.{_≡_};
 ghost use Prim.Native.Nat.{_+_, _*_, _≤_};
-ghost use mathlib.Core.List.{[], _∷_, _++_};
-ghost use lib.ListN.{length, take, drop};
+ghost use mathlib.Core.List.{[], _∷_};
+ghost use lib.ListN.{length, take};
 ghost use Rattle.numeral.specs.Decimal.{decimalText};
 ghost use Rattle.answers.specs.Reply.{line};
 ghost use Rattle.calls.specs.Calls.{answerOf};

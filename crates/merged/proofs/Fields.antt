@@ -1,15 +1,13 @@
 -- The bytes at a place, and what stands at the start of a row.
-use mathlib.Core.Path.{_≡_, refl, sym, _∙_, ap}
-use mathlib.Core.Bool.{Bool, true, false, cond}
+use mathlib.Core.Path.{_≡_, sym, _∙_, ap}
 use mathlib.Core.List.{List, []}
-use Prim.Native.Nat.{ℕ, _+_, _-_, _≤_, _<_}
+use Prim.Native.Nat.{ℕ, _-_, _≤_, _<_}
 use native.Mathlib.Omega.{arith}
 use native.Mathlib.Nat.{le-refl}
-use borrow.Author.Tests.{lt-ltb, le-ltb, ltb-true, ltb-false}
-use lib.Dec.{ltb}
-use lib.ListN.{length, getD, take, drop}
-use lib.Seq.{slice, take-length, take-all}
-use Rattle.fields.specs.Field.{Head, field, short, headOf}
+use borrow.Author.Tests.{lt-ltb, le-ltb}
+use lib.ListN.{length, take, drop}
+use lib.Seq.{slice, take-length}
+use Rattle.fields.specs.Field.{field, short, headOf}
 use Rattle.fields.specs.Place.{fieldAt, headAt, FieldInside}
 use Rattle.fields.specs.Heads.{head-slice, field-inside}
 use Rattle.fields.specs.Slices.{part-slice}

@@ -1,18 +1,15 @@
 -- What is known of the bytes of a whole record.
 use mathlib.Core.Path.{_≡_, refl, sym, _∙_, ap, subst}
 use mathlib.Core.Bool.{Bool, true, false, cond}
-use mathlib.Core.List.{List, [], _∷_}
-use Prim.Native.Nat.{ℕ, zero, suc, _+_, _-_, _*_, _≤_, _<_}
+use mathlib.Core.List.{List, []}
+use Prim.Native.Nat.{ℕ, _+_, _-_, _*_, _≤_, _<_}
 use native.Mathlib.Omega.{arith}
 use native.Mathlib.Nat.{le-refl}
 use borrow.Author.Tests.{leb-true, leb-false, eq-eqb, ne-eqb}
-use lib.Dec.{leb, ltb, eqb}
-use lib.ListN.{length, getD, take, drop, length-drop}
+use lib.Dec.{leb, eqb}
+use lib.ListN.{length, getD, drop, length-drop}
 use lib.Seq.{slice, length-slice, take-all, take-length}
-use Rattle.fields.specs.Field.{Head, field, short, headOf}
-use Rattle.fields.specs.Place.{fieldAt}
-use Rattle.fields.specs.declared.Field.the-variants.{Whole, Short}
-use Rattle.records.specs.Record.{Record, whole, recordOf, isBlock, widthOf, goodContents, keyOf, rangeOf, firstOf, lastOf}
+use Rattle.records.specs.Record.{Record, whole, recordOf, widthOf, goodContents, rangeOf, firstOf, lastOf}
 use Rattle.records.specs.Judge.{judgeAlone}
 use Rattle.records.specs.Place.{bytesOf, handleSpan, nameSpan}
 use Rattle.records.specs.declared.Span.{Span}
@@ -22,7 +19,7 @@ use Rattle.records.proofs.Shapes.{no-block, a-block, named-fields}
 use Rattle.address.specs.Positions.{rangeIn}
 use Rattle.image.proofs.Placing.{range-slice}
 use Rattle.fields.proofs.Starts.{starts}
-use Rattle.merged.specs.Held.{fieldBytes, parsedFrom, Recorded, bareKey, Key}
+use Rattle.merged.specs.Held.{parsedFrom, Recorded, bareKey, Key}
 
 pub record Known (s : List ℕ) : Type 0 where
   pub tag-is : getD s 0 0 ≡ parsedFrom s .tag

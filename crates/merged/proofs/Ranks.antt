@@ -1,17 +1,16 @@
 -- The search by halves for a key, and what stands at its rank.
 use mathlib.Core.Path.{_≡_, refl, sym, _∙_, ap}
-use mathlib.Core.Bool.{Bool, true, false, not, cond, false≢true}
-use mathlib.Core.List.{List, [], _∷_, _++_, map}
+use mathlib.Core.Bool.{Bool, true, false, not, false≢true}
+use mathlib.Core.List.{List, [], _∷_}
 use Prim.Native.Nat.{ℕ, zero, suc, _+_, _≤_, _<_}
 use native.Mathlib.Omega.{arith}
-use lib.ListN.{length, getD, take, drop, length-map, length-take, List·getD-map, drop-of-length-le}
+use lib.ListN.{length, getD, take, drop, length-map, List·getD-map, drop-of-length-le}
 use lib.Seq.{drop-cons, getD-take, length-take-le}
 use Rattle.records.specs.Record.{Record, follows}
-use Rattle.rows.specs.Entry.{Entry, parsedOf}
+use Rattle.rows.specs.Entry.{Entry}
 use Rattle.rows.specs.Good.{GoodEntry, AllGood, good-cons}
-use Rattle.rows.specs.Ordered.{Ordered}
 use Rattle.changes.specs.Change.{sameKey, isThere}
-use Rattle.changes.specs.Rank.{rankOf, startsWith}
+use Rattle.changes.specs.Rank.{rankOf}
 use Rattle.changes.proofs.Ordered.{other-way}
 use Rattle.changes.proofs.Ranks.{follows-back, there-at, rank-above, rank-at-most, rank-length}
 use Rattle.merged.specs.Held.{bytesAt, parsedFrom, entryOf, entriesAt, Recorded, Held}

@@ -1,28 +1,24 @@
 -- The rows of the places of an index, and the entries of an image by their places.
-use mathlib.Core.Path.{_≡_, refl, sym, _∙_, ap, subst}
+use mathlib.Core.Path.{_≡_, refl, sym, _∙_, ap}
 use mathlib.Core.Bool.{Bool, true, false, cond}
 use mathlib.Core.List.{List, [], _∷_, _++_, map, append-assoc, append-nil}
-use Prim.Native.Nat.{ℕ, zero, suc, _+_, _-_, _*_, _≤_, _<_}
+use Prim.Native.Nat.{ℕ, suc, _+_, _-_, _≤_, _<_}
 use native.Mathlib.Omega.{arith}
-use native.Mathlib.Nat.{le-refl}
 use native.Mathlib.Numerals.{add-one}
 use borrow.Author.Tests.{lt-ltb}
 use lib.Dec.{ltb}
-use lib.ListN.{length, getD, take, drop, set, length-append, length-take, length-drop, length-set, take-append-drop, drop-of-length-le}
-use lib.Seq.{slice, take-suc, drop-cons, length-slice, take-suc-set, take-all, take-set-le, take-take, drop-drop, length-take-le}
-use Rattle.fields.specs.Field.{Head, field, short, headOf, sizeOf}
-use Rattle.fields.specs.Place.{fieldAt, headAt, FieldInside}
-use Rattle.fields.specs.Heads.{head-slice, field-inside}
-use Rattle.fields.specs.Slices.{part-slice}
+use lib.ListN.{length, getD, take, drop, set, length-append, length-take, length-drop, take-append-drop, drop-of-length-le}
+use lib.Seq.{slice, take-suc, drop-cons, length-slice, take-suc-set, take-take, drop-drop, length-take-le}
+use Rattle.fields.specs.Field.{field, headOf, sizeOf}
+use Rattle.fields.specs.Place.{fieldAt}
 use Rattle.fields.specs.declared.Field.{Field}
 use Rattle.fields.specs.declared.Field.the-variants.{Whole, Short}
 use Rattle.records.specs.Record.{Record}
-use Rattle.records.specs.Judge.{judge}
 use Rattle.rows.specs.Entry.{Entry, entry, entriesOf, rowOf}
-use Rattle.rows.specs.Good.{GoodEntry, AllGood, good-nil, good-cons}
+use Rattle.rows.specs.Good.{GoodEntry, AllGood, good-cons}
 use Rattle.fields.proofs.Starts.{starts, no-field}
-use Rattle.merged.specs.Held.{bytesFrom, fieldBytes, bytesAt, parsedFrom, recordIn, entryOf, entriesAt}
-use Rattle.merged.proofs.Fields.{whole-part, bytes-inside, bytes-whole, bytes-short, head-short, head-whole}
+use Rattle.merged.specs.Held.{fieldBytes, bytesAt, parsedFrom, entryOf, entriesAt}
+use Rattle.merged.proofs.Fields.{bytes-inside, bytes-whole, bytes-short, head-short, head-whole}
 
 -- Rows
 
@@ -183,6 +179,7 @@ module _ (image : List ℕ) (records : List Record) (index : List ℕ) (i at : �
           rw (t, d, add-one i)
           (append-assoc (entriesAt image changes (take i index)) (here ∷ []) (entriesOf (drop (suc i) records) (drop (sizeOf s) s))
           ∙ rw (← entries-are) (m .noted changes))
+
 pub passed-end : (image : List ℕ) (records : List Record) (index : List ℕ) (i at : ℕ) → Passed image records index i at → length records ≤ i
     → (changes : List ℕ) → entriesAt image changes (take i index) ≡ entriesOf records (drop 4 image)
 unfolding entriesOf

@@ -1,7 +1,7 @@
 -- The records that an index of places holds: each place is a position of the image, or 262,144 and a position of the change file.
 use mathlib.Core.Path.{_≡_}
 use mathlib.Core.Bool.{cond}
-use mathlib.Core.List.{List, [], _∷_, map}
+use mathlib.Core.List.{List, [], map}
 use Prim.Native.Nat.{ℕ, _-_, _*_, _≤_}
 use lib.Dec.{ltb}
 use lib.ListN.{length}

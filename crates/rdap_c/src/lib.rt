@@ -149,7 +149,12 @@ pub extern "C" fn rdap_prefixes(range: &[u8], out: &mut [u8], reply: &mut [u32; 
 
 // A change file folded into an image, to the front of the buffer.
 #[no_mangle]
-pub extern "C" fn rdap_fold<'a>(image: &'a [u8], changes: &'a [u8], out: &mut [u8], reply: &mut [u32; 5])
+pub extern "C" fn rdap_fold<'a>(
+    image: &'a [u8],
+    changes: &'a [u8],
+    out: &mut [u8],
+    reply: &mut [u32; 5],
+)
     ensures { λ _. ⌜ now (reply .exit) ≡ foldingNumbers (foldOf (now (image .entry)) (now (changes .entry)) (length (now (out .entry)))) ⌝ }
     ensures { λ _. ⌜ now (out .exit) ≡ outAfter (foldOf (now (image .entry)) (now (changes .entry)) (length (now (out .entry)))) (now (out .entry)) ⌝ }
 {

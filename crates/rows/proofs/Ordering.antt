@@ -1,21 +1,20 @@
 -- The records of a sound row are sorted; a row of sorted entries has no defect but 3 (too many) and 7.
 use mathlib.Core.Path.{_≡_, refl}
 use mathlib.Core.Bool.{Bool, true, false, cond}
-use mathlib.Core.List.{List, [], _∷_, _++_, reverseAux}
+use mathlib.Core.List.{List, [], _∷_, _++_}
 use Prim.Native.Nat.{ℕ, zero, suc}
 use lib.Dec.{leb}
 use lib.ListN.{length, take}
 use Rattle.address.specs.Lists.{contains}
 use Rattle.address.proofs.Tests.{is-true}
-use Rattle.fields.specs.Field.{Head, field, short, headOf}
 use Rattle.records.specs.Record.{Record, follows}
-use Rattle.records.specs.Judge.{Judged, bad, good, judge, inOrder, crossesAny}
-use Rattle.image.specs.Image.{Image, sound, defective, afterJudged, nextOf, afterNext, imageFrom, startsRight, imageOf}
+use Rattle.records.specs.Judge.{bad, good, inOrder, crossesAny}
+use Rattle.image.specs.Image.{Image, sound, defective, afterJudged, afterNext, imageFrom, startsRight, imageOf}
 use Rattle.image.proofs.Sound.{Later, done, next, records-later}
 use Rattle.rows.specs.Entry.{Entry, parsedOf, rowOf}
 use Rattle.rows.specs.Good.{AllGood, good-cons}
 use Rattle.rows.specs.Ordered.{AllAfter, after-nil, after-cons, Ordered, ordered-nil, ordered-cons, Continues}
-use Rattle.records.proofs.Judging.{judged-after, judged-ordered}
+use Rattle.records.proofs.Judging.{judged-after}
 use Rattle.rows.proofs.Rows.{image-step, image-full, entry-head}
 use Rattle.rows.proofs.Images.{row-of, start-kept}
 use Rattle.records.proofs.Order.{follows-trans}

@@ -1,13 +1,11 @@
 -- The record by its place in the change file, put where its rank is (Applying.antt).
 use borrow.Author.Needs.{needs}
-use mathlib.Core.Path.{_≡_, refl, sym, _∙_, ap}
-use mathlib.Core.Bool.{Bool, true, false, cond, not, false≢true}
-use mathlib.Core.List.{List, [], _∷_, _++_}
-use Prim.Native.Nat.{ℕ, zero, suc, _+_, _-_, _*_, _≤_, _<_}
+use mathlib.Core.Path.{_≡_, refl, sym, _∙_, ap, subst}
+use mathlib.Core.List.{List}
+use Prim.Native.Nat.{ℕ, _+_, _-_}
 use native.Mathlib.Omega.{arith}
-use lib.ListN.{length, getD, take, drop}
+use lib.ListN.{getD, take, drop}
 use denote.Ref.{now}
-use mathlib.Core.Path.{subst}
 use lib.Seq.{slice}
 use Rattle.fields.specs.Slices.{part-slice}
 use Rattle.merged.specs.Held.{bytesAt, entryOf, entriesAt, Recorded, Key}

@@ -1,16 +1,13 @@
 -- The changes before `at` are applied (Applying.antt).
 use borrow.Author.Needs.{needs}
-use mathlib.Core.Path.{_≡_, refl, sym, _∙_, ap}
-use mathlib.Core.Bool.{Bool, true, false, cond, not, false≢true}
-use mathlib.Core.List.{List, [], _∷_, _++_}
-use Prim.Native.Nat.{ℕ, zero, suc, _+_, _-_, _*_, _≤_, _<_}
+use Prim.Native.Nat.{_-_}
 use native.Mathlib.Omega.{arith}
-use lib.ListN.{length, getD, take, drop}
+use lib.ListN.{length, take}
 use denote.Ref.{now}
 use borrow.Author.Tests.{not-true, not-false}
 use Rattle.merged.specs.Held.{entriesAt}
 use Rattle.applying.specs.Steps.{ChangeAt}
-use Rattle.applying.specs.declared.Change.the-variants.{Add, Remove, Malformed}
+use Rattle.applying.specs.declared.Change.the-variants.{Add, Remove}
 use Rattle.applying.proofs.Applying.{Reached, reach-start, room, reach-end, reach-malformed, reach-refused, reach-next, forward, added-long}
 use Rattle.applying.proofs.apply.Statement.{statement}
 use Rattle.applying.proofs.apply.Tie as tie

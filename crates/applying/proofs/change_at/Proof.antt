@@ -1,12 +1,8 @@
 -- The field, its tag and its contents (Changes.antt).
 use borrow.Author.Needs.{needs}
-use mathlib.Core.Path.{_≡_, refl, sym, _∙_, ap}
-use mathlib.Core.Bool.{Bool, true, false, cond, not}
-use mathlib.Core.List.{List, [], _∷_, _++_}
-use Prim.Native.Nat.{ℕ, zero, suc, _+_, _-_, _*_, _≤_, _<_}
+use mathlib.Core.List.{List}
+use Prim.Native.Nat.{ℕ, _-_}
 use native.Mathlib.Omega.{arith}
-use lib.ListN.{length, getD, take, drop}
-use denote.Ref.{now}
 use Rattle.fields.specs.Slices.{part-slice}
 use Rattle.applying.specs.Steps.{Addition, Removal}
 use Rattle.merged.proofs.Fields.{bytes-inside}

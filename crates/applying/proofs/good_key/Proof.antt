@@ -1,13 +1,7 @@
 -- By the tag: a range, a handle or a host name (Changes.antt).
 use borrow.Author.Needs.{needs}
-use mathlib.Core.Path.{_≡_, refl, sym, _∙_, ap}
-use mathlib.Core.Bool.{Bool, true, false, cond, not}
-use mathlib.Core.List.{List, [], _∷_, _++_}
-use Prim.Native.Nat.{ℕ, zero, suc, _+_, _-_, _*_, _≤_, _<_}
+use Prim.Native.Nat.{_-_}
 use native.Mathlib.Omega.{arith}
-use lib.ListN.{length, getD, take, drop}
-use denote.Ref.{now}
-use Rattle.records.specs.Record.{widthOf}
 use Rattle.image.proofs.Addresses.{wide-family}
 use Rattle.applying.proofs.Changes.{key-length, key-range, key-handle, key-host}
 use Rattle.applying.proofs.good_key.Statement.{statement}

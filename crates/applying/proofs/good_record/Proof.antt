@@ -1,13 +1,6 @@
 -- The field, its end, and the judgement (Changes.antt).
 use borrow.Author.Needs.{needs}
-use mathlib.Core.Path.{_≡_, refl, sym, _∙_, ap}
-use mathlib.Core.Bool.{Bool, true, false, cond, not}
-use mathlib.Core.List.{List, [], _∷_, _++_}
-use Prim.Native.Nat.{ℕ, zero, suc, _+_, _-_, _*_, _≤_, _<_}
-use native.Mathlib.Omega.{arith}
-use lib.ListN.{length, getD, take, drop}
-use denote.Ref.{now}
-use native.Mathlib.Nat.{le-refl}
+use Prim.Native.Nat.{_-_}
 use Rattle.merged.proofs.Fields.{bytes-inside}
 use Rattle.applying.proofs.Changes.{add-short, add-longer, add-bad, add-good}
 use Rattle.applying.proofs.good_record.Statement.{statement}

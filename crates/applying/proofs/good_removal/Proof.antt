@@ -1,11 +1,8 @@
 -- The tag and the key (Changes.antt).
 use borrow.Author.Needs.{needs}
-use mathlib.Core.Path.{_≡_, refl, sym, _∙_, ap}
-use mathlib.Core.Bool.{Bool, true, false, cond, not}
-use mathlib.Core.List.{List, [], _∷_, _++_}
-use Prim.Native.Nat.{ℕ, zero, suc, _+_, _-_, _*_, _≤_, _<_}
+use Prim.Native.Nat.{_-_, _<_}
 use native.Mathlib.Omega.{arith}
-use lib.ListN.{length, getD, take, drop}
+use lib.ListN.{length}
 use denote.Ref.{now}
 use Rattle.applying.proofs.Changes.{remove-none, remove-low, remove-high, remove-by}
 use Rattle.applying.proofs.good_removal.Statement.{statement}

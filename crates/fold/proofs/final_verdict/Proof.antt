@@ -1,12 +1,8 @@
 -- The length, then the overlaps, then the count (Finals.antt).
 use borrow.Author.Needs.{needs}
-use mathlib.Core.Path.{_≡_, refl, sym, _∙_, ap}
-use mathlib.Core.Bool.{Bool, true, false, cond, not, false≢true}
-use mathlib.Core.List.{List, [], _∷_, _++_}
-use Prim.Native.Nat.{ℕ, zero, suc, _+_, _-_, _*_, _≤_, _<_}
+use mathlib.Core.Path.{_≡_}
+use Prim.Native.Nat.{_-_, _≤_, _<_}
 use native.Mathlib.Omega.{arith}
-use lib.ListN.{length, getD, take, drop}
-use denote.Ref.{now}
 use mathlib.Core.Logic.{⊎-elim}
 use Rattle.merged.proofs.Ranks.{count-is}
 use Rattle.fold.proofs.Finals.{too-long, overlapping, too-many, no-defect}

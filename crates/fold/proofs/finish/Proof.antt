@@ -1,19 +1,16 @@
 -- The verdict, the room, and then the start and the records written (Finals.antt).
 use borrow.Author.Needs.{needs}
-use mathlib.Core.Path.{_≡_, refl, sym, _∙_, ap}
-use mathlib.Core.Bool.{Bool, true, false, cond, not, false≢true}
-use mathlib.Core.List.{List, [], _∷_, _++_}
-use Prim.Native.Nat.{ℕ, zero, suc, _+_, _-_, _*_, _≤_, _<_}
+use mathlib.Core.Path.{sym, _∙_, ap}
+use mathlib.Core.List.{_++_}
+use Prim.Native.Nat.{ℕ, _+_, _-_}
 use native.Mathlib.Omega.{arith}
-use lib.ListN.{length, getD, take, drop}
+use lib.ListN.{take, drop, length-take}
 use denote.Ref.{now}
-use lib.ListN.{length-append, length-drop, length-take}
 use lib.Seq.{length-take-le}
 use Rattle.image.proofs.Walk.{start-length}
-use Rattle.rows.specs.Entry.{rowOf}
 use Rattle.merged.specs.Held.{entriesAt}
 use Rattle.listing.specs.Writing.{Written}
-use Rattle.listing.proofs.Writing.{written-both, rest-length}
+use Rattle.listing.proofs.Writing.{written-both}
 use Rattle.fold.proofs.Finals.{finish-bad, finish-full, finish-written, image-size}
 use Rattle.fold.proofs.finish.Statement.{statement}
 use Rattle.fold.proofs.finish.Tie as tie

@@ -1,13 +1,11 @@
 -- The records before i do not overlap, and the open blocks stand for them (Scans.antt).
 use borrow.Author.Needs.{needs}
-use mathlib.Core.Path.{_≡_, refl, sym, _∙_, ap}
-use mathlib.Core.Bool.{Bool, true, false, cond, not, false≢true}
-use mathlib.Core.List.{List, [], _∷_, _++_}
-use Prim.Native.Nat.{ℕ, zero, suc, _+_, _-_, _*_, _≤_, _<_}
+use mathlib.Core.Path.{refl, sym, _∙_, ap, subst}
+use mathlib.Core.List.{List}
+use Prim.Native.Nat.{ℕ, _-_, _≤_, _<_}
 use native.Mathlib.Omega.{arith}
-use lib.ListN.{length, getD, take, drop}
+use lib.ListN.{length, getD, take}
 use denote.Ref.{now}
-use mathlib.Core.Path.{subst}
 use Rattle.merged.specs.Held.{bytesAt, parsedFrom, entriesAt, Recorded}
 use Rattle.fold.specs.Overlaps.{PlacedIn}
 use Rattle.merged.proofs.Known.{known}
@@ -39,10 +37,11 @@ place-of-requires : tie.Need-place-of-requires Inv-loop μ-loop
 place-of-requires c κs =
     let i = c .before .before .before in
     let a = i .before .before .before .before in
-    let e = c .before .record-at .ensures in
-    (scan-room _ _ _ (a .args .count) (omega (arith, a .pre .0, a .pre .4)) (a .pre .2) _ _ _ _ (i .before .loop .inv .1) (omega (arith, i .loop-test .taken, a .pre .3)) (omega (arith, i .loop-test .taken, a .pre .1)),
-    subst Recorded (sym e) (whole _ _ _ (a .args .count) (omega (arith, a .pre .0, a .pre .4)) (a .pre .2) _ _ _ _ (i .before .loop .inv .1) (omega (arith, i .loop-test .taken, a .pre .3))),
-    λ f b. open-blocks _ _ _ (a .args .count) (omega (arith, a .pre .0, a .pre .4)) (a .pre .2) _ _ _ _ (i .before .loop .inv .1) (omega (arith, i .loop-test .taken, a .pre .3)) (f ∙ ap (λ (s : List ℕ). parsedFrom s .tag) e) b)
+    let e = c .before .record-at .ensures in (
+      scan-room _ _ _ (a .args .count) (omega (arith, a .pre .0, a .pre .4)) (a .pre .2) _ _ _ _ (i .before .loop .inv .1) (omega (arith, i .loop-test .taken, a .pre .3)) (omega (arith, i .loop-test .taken, a .pre .1)),
+      subst Recorded (sym e) (whole _ _ _ (a .args .count) (omega (arith, a .pre .0, a .pre .4)) (a .pre .2) _ _ _ _ (i .before .loop .inv .1) (omega (arith, i .loop-test .taken, a .pre .3))),
+      λ f b. open-blocks _ _ _ (a .args .count) (omega (arith, a .pre .0, a .pre .4)) (a .pre .2) _ _ _ _ (i .before .loop .inv .1) (omega (arith, i .loop-test .taken, a .pre .3)) (f ∙ ap (λ (s : List ℕ). parsedFrom s .tag) e) b,
+    )
 
 enum-known-d : tie.Need-enum-known-d Inv-loop μ-loop
 enum-known-d c = search needs
@@ -91,9 +90,10 @@ loop-again c =
     let i = d .before .before .before .before .before .before in
     let a = i .before .before .before .before in
     let e = d .before .before .before .before .record-at .ensures in
-    let w = known _ (whole _ _ _ (a .args .count) (omega (arith, a .pre .0, a .pre .4)) (a .pre .2) _ _ _ _ (i .before .loop .inv .1) (omega (arith, i .loop-test .taken, a .pre .3))) in
-    (omega (arith, i .loop-test .taken),
-    scan-on _ _ _ (a .args .count) (omega (arith, a .pre .0, a .pre .4)) (a .pre .2) _ _ _ _ (i .before .loop .inv .1) (omega (arith, i .loop-test .taken, a .pre .3)) (omega (arith, i .loop-test .taken, a .pre .1)) _ (placed (d .before .before)) _ (d .d .given .1) _ (ap (λ (s : List ℕ). getD s 0 0) e ∙ w .tag-is))
+    let w = known _ (whole _ _ _ (a .args .count) (omega (arith, a .pre .0, a .pre .4)) (a .pre .2) _ _ _ _ (i .before .loop .inv .1) (omega (arith, i .loop-test .taken, a .pre .3))) in (
+      omega (arith, i .loop-test .taken),
+      scan-on _ _ _ (a .args .count) (omega (arith, a .pre .0, a .pre .4)) (a .pre .2) _ _ _ _ (i .before .loop .inv .1) (omega (arith, i .loop-test .taken, a .pre .3)) (omega (arith, i .loop-test .taken, a .pre .1)) _ (placed (d .before .before)) _ (d .d .given .1) _ (ap (λ (s : List ℕ). getD s 0 0) e ∙ w .tag-is),
+    )
 
 enum-told : tie.Need-enum-told Inv-loop μ-loop
 enum-told c = search needs

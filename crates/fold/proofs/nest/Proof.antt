@@ -1,14 +1,13 @@
 -- The open blocks above d have ended, so the place is among the first d (Nests.antt).
 use borrow.Author.Needs.{needs}
-use mathlib.Core.Path.{_≡_, refl, sym, _∙_, ap}
-use mathlib.Core.Bool.{Bool, true, false, cond, not}
-use mathlib.Core.List.{List, [], _∷_, _++_}
-use Prim.Native.Nat.{ℕ, zero, suc, _+_, _-_, _*_, _≤_, _<_}
+use mathlib.Core.Path.{_≡_, refl, sym, _∙_, ap, subst}
+use mathlib.Core.Bool.{Bool}
+use mathlib.Core.List.{List}
+use Prim.Native.Nat.{ℕ, _+_, _-_, _*_, _≤_}
 use native.Mathlib.Omega.{arith}
-use lib.ListN.{length, getD, take, drop}
+use lib.ListN.{length, getD}
 use denote.Ref.{now}
 use lib.Dec.{leb}
-use mathlib.Core.Path.{subst}
 use Rattle.address.specs.Positions.{Wide, numberIn}
 use Rattle.records.specs.Record.{widthOf, firstOf, lastOf}
 use Rattle.image.proofs.Addresses.{wide-family}
@@ -128,10 +127,12 @@ loop-again c =
     let x = c .before .before in
     let i = x .before .before in
     let a = i .before .before .before .before .before .before .before in
-    let o = opened x in
-    (omega (arith, i .before .loop .inv .0), i .before .loop .inv .1,
-    nest-on (now (a .args .image)) (now (a .args .changes)) (now (a .args .stack)) (parsedFrom (now (a .args .r))) (a .args .depth) (i .before .loop .d) (i .before .loop .inv .0) (i .before .loop .inv .2) (i .loop-test .taken)
-    (o .first-test _ (c .before .numbers-at-most .ensures) ∙ c .if1 .left))
+    let o = opened x in (
+      omega (arith, i .before .loop .inv .0),
+      i .before .loop .inv .1,
+      nest-on (now (a .args .image)) (now (a .args .changes)) (now (a .args .stack)) (parsedFrom (now (a .args .r))) (a .args .depth) (i .before .loop .d) (i .before .loop .inv .0) (i .before .loop .inv .2) (i .loop-test .taken)
+          (o .first-test _ (c .before .numbers-at-most .ensures) ∙ c .if1 .left),
+    )
 
 returns-3 : tie.Need-returns-3 Inv-loop μ-loop
 returns-3 c =

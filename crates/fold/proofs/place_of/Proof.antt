@@ -1,17 +1,11 @@
 -- Only a block after a block of its tag is nested.
-use borrow.Author.Needs.{needs}
-use mathlib.Core.Path.{_≡_, refl, sym, _∙_, ap}
-use mathlib.Core.Bool.{Bool, true, false, cond, not, false≢true}
-use mathlib.Core.List.{List, [], _∷_, _++_}
-use Prim.Native.Nat.{ℕ, zero, suc, _+_, _-_, _*_, _≤_, _<_}
+use mathlib.Core.Path.{refl, sym, _∙_, subst}
+use Prim.Native.Nat.{_-_}
 use native.Mathlib.Omega.{arith}
-use lib.ListN.{length, getD, take, drop}
 use denote.Ref.{now}
 use mathlib.Core.Logic.{inl, inr}
-use Rattle.merged.specs.Held.{parsedFrom}
 use Rattle.fold.specs.Overlaps.{OpenBlocks}
 use Rattle.merged.proofs.Known.{known}
-use mathlib.Core.Path.{subst}
 use Rattle.fold.proofs.place_of.Statement.{statement}
 use Rattle.fold.proofs.place_of.Tie as tie
 

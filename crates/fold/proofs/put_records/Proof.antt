@@ -1,16 +1,13 @@
 -- The first i records are written.
 use borrow.Author.Needs.{needs}
-use mathlib.Core.Path.{_≡_, refl, sym, _∙_, ap}
-use mathlib.Core.Bool.{Bool, true, false, cond, not}
-use mathlib.Core.List.{List, [], _∷_, _++_}
-use Prim.Native.Nat.{ℕ, zero, suc, _+_, _-_, _*_, _≤_, _<_}
+use mathlib.Core.Path.{_≡_, ap}
+use Prim.Native.Nat.{_+_, _-_, _≤_}
 use native.Mathlib.Omega.{arith}
-use lib.ListN.{length, getD, take, drop}
+use lib.ListN.{length, getD, take, length-append}
 use denote.Ref.{now}
 use Rattle.rows.specs.Entry.{rowOf}
 use Rattle.merged.specs.Held.{bytesAt, entriesAt}
 use Rattle.merged.proofs.Rows.{row-next, row-rises}
-use lib.ListN.{length-append}
 use Rattle.listing.specs.Writing.{Written}
 use Rattle.listing.proofs.Writing.{written-nothing, written-length, rest-length}
 use Rattle.fold.proofs.Finals.{put-next}
@@ -50,9 +47,16 @@ room c =
     let l = i .before .loop in
     let a = i .before .before .before .before .before in
     let e = row-next (now (a .args .image)) (now (a .args .changes)) (now (a .args .index)) (l .i) (omega (arith, i .loop-test .taken, a .pre .0, a .pre .1)) in
-    omega (arith, a .pre .2, row-rises (now (a .args .image)) (now (a .args .changes)) (now (a .args .index)) (l .i + 1) (a .args .n) (omega (arith, i .loop-test .taken)),
-    ap length e, length-append (rowOf (entriesAt (now (a .args .image)) (now (a .args .changes)) (take (l .i) (now (a .args .index))))) (bytesAt (now (a .args .image)) (now (a .args .changes)) (getD (now (a .args .index)) (l .i) 0)),
-    ap length (c .record-at .ensures), l .inv .1 .size, all i)
+    omega (
+      arith,
+      a .pre .2,
+      row-rises (now (a .args .image)) (now (a .args .changes)) (now (a .args .index)) (l .i + 1) (a .args .n) (omega (arith, i .loop-test .taken)),
+      ap length e,
+      length-append (rowOf (entriesAt (now (a .args .image)) (now (a .args .changes)) (take (l .i) (now (a .args .index))))) (bytesAt (now (a .args .image)) (now (a .args .changes)) (getD (now (a .args .index)) (l .i) 0)),
+      ap length (c .record-at .ensures),
+      l .inv .1 .size,
+      all i,
+    )
 
 sub-put-bytes : tie.Need-sub-put-bytes Inv-loop μ-loop
 sub-put-bytes c = omega (arith, room c)
@@ -83,9 +87,10 @@ loop-again c =
     let i = b .before .before in
     let l = i .before .loop in
     let a = i .before .before .before .before .before in
-    let e = row-next (now (a .args .image)) (now (a .args .changes)) (now (a .args .index)) (l .i) (omega (arith, i .loop-test .taken, a .pre .0, a .pre .1)) in
-    (omega (arith, i .loop-test .taken),
-    put-next (l .inv .1) (b .record-at .ensures) e (c .before .before .put-bytes .ensures))
+    let e = row-next (now (a .args .image)) (now (a .args .changes)) (now (a .args .index)) (l .i) (omega (arith, i .loop-test .taken, a .pre .0, a .pre .1)) in (
+      omega (arith, i .loop-test .taken),
+      put-next (l .inv .1) (b .record-at .ensures) e (c .before .before .put-bytes .ensures),
+    )
 
 same-length : tie.Need-same-length Inv-loop μ-loop
 same-length c =

@@ -1,13 +1,10 @@
 -- The tests of a block, one after another.
 use borrow.Author.Needs.{needs}
-use mathlib.Core.Path.{_≡_, refl, sym, _∙_, ap}
-use mathlib.Core.Bool.{Bool, true, false, cond, not}
-use mathlib.Core.List.{List, [], _∷_, _++_}
-use Prim.Native.Nat.{ℕ, zero, suc, _+_, _-_, _*_, _≤_, _<_}
+use mathlib.Core.Path.{sym, _∙_}
+use Prim.Native.Nat.{_+_, _-_, _*_, _≤_}
 use native.Mathlib.Omega.{arith}
-use lib.ListN.{length, getD, take, drop}
+use lib.ListN.{length}
 use denote.Ref.{now}
-use Rattle.records.specs.Record.{widthOf}
 use Rattle.image.proofs.Addresses.{wide-family}
 use Rattle.image.proofs.Placing.{ranged, ends, good-named, bad-status, block-is}
 use Rattle.image.proofs.block_ok.Statement.{statement}

@@ -1,14 +1,10 @@
 -- The record by its tag and key (Keys.antt).
 use borrow.Author.Needs.{needs}
-use mathlib.Core.Path.{_≡_, refl, sym, _∙_, ap}
-use mathlib.Core.Bool.{Bool, true, false, cond, not}
-use mathlib.Core.List.{List, [], _∷_, _++_}
-use Prim.Native.Nat.{ℕ, zero, suc, _+_, _-_, _*_, _≤_, _<_}
+use mathlib.Core.Path.{refl, _∙_, ap}
+use Prim.Native.Nat.{_-_}
 use native.Mathlib.Omega.{arith}
-use lib.ListN.{length, getD, take, drop}
 use denote.Ref.{now}
-use mathlib.Core.Path.{subst}
-use Rattle.merged.specs.Held.{parsedFrom, bareKey, Key}
+use Rattle.merged.specs.Held.{parsedFrom}
 use Rattle.merged.proofs.Known.{known, key-read}
 use Rattle.changes.specs.Change.{keyed}
 use Rattle.records.specs.Record.{Record, follows}

@@ -1,12 +1,7 @@
 -- The part is what the definition takes of the field that stands there (Fields.antt).
 use borrow.Author.Needs.{needs}
-use mathlib.Core.Path.{_≡_, refl, sym, _∙_, ap}
-use mathlib.Core.Bool.{Bool, true, false, cond, not}
-use mathlib.Core.List.{List, [], _∷_, _++_}
-use Prim.Native.Nat.{ℕ, zero, suc, _+_, _-_, _*_, _≤_, _<_}
+use Prim.Native.Nat.{_-_}
 use native.Mathlib.Omega.{arith}
-use lib.ListN.{length, getD, take, drop}
-use denote.Ref.{now}
 use Rattle.merged.proofs.Fields.{bytes-inside, bytes-short, bytes-whole}
 use Rattle.merged.proofs.field_bytes.Statement.{statement}
 use Rattle.merged.proofs.field_bytes.Tie as tie

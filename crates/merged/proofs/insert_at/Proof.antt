@@ -1,13 +1,10 @@
 -- The places from i on have moved up by one.
 use borrow.Author.Needs.{needs}
-use mathlib.Core.Path.{_≡_, refl, sym, _∙_, ap}
-use mathlib.Core.Bool.{Bool, true, false, cond, not}
-use mathlib.Core.List.{List, [], _∷_, _++_}
-use Prim.Native.Nat.{ℕ, zero, suc, _+_, _-_, _*_, _≤_, _<_}
+use mathlib.Core.Path.{_≡_, _∙_}
+use Prim.Native.Nat.{_-_, _≤_, _<_}
 use native.Mathlib.Omega.{arith}
-use lib.ListN.{length, getD, take, drop}
+use lib.ListN.{length, length-set}
 use denote.Ref.{now}
-use lib.ListN.{length-set}
 use Rattle.merged.proofs.Index.{Shifted, shift-start, shift-step, shift-length, shift-done}
 use Rattle.merged.proofs.insert_at.Statement.{statement}
 use Rattle.merged.proofs.insert_at.Tie as tie

@@ -1,13 +1,10 @@
 -- What stands at the rank (Ranks.antt).
 use borrow.Author.Needs.{needs}
-use mathlib.Core.Path.{_≡_, refl, sym, _∙_, ap}
-use mathlib.Core.Bool.{Bool, true, false, cond, not}
-use mathlib.Core.List.{List, [], _∷_, _++_}
-use Prim.Native.Nat.{ℕ, zero, suc, _+_, _-_, _*_, _≤_, _<_}
+use mathlib.Core.Path.{sym, _∙_, ap, subst}
+use mathlib.Core.List.{List}
+use Prim.Native.Nat.{ℕ, _-_}
 use native.Mathlib.Omega.{arith}
-use lib.ListN.{length, getD, take, drop}
 use denote.Ref.{now}
-use mathlib.Core.Path.{subst}
 use Rattle.records.specs.Record.{follows}
 use Rattle.changes.specs.Change.{keyed}
 use Rattle.merged.specs.Held.{parsedFrom, Recorded}

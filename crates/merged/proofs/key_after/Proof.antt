@@ -1,12 +1,9 @@
 -- By the tags, then the ranges or the texts (Keys.antt).
 use borrow.Author.Needs.{needs}
-use mathlib.Core.Path.{_≡_, refl, sym, _∙_, ap}
-use mathlib.Core.Bool.{Bool, true, false, cond, not}
-use mathlib.Core.List.{List, [], _∷_, _++_}
-use Prim.Native.Nat.{ℕ, zero, suc, _+_, _-_, _*_, _≤_, _<_}
+use mathlib.Core.Path.{_∙_, ap}
+use mathlib.Core.Bool.{not}
+use Prim.Native.Nat.{_-_}
 use native.Mathlib.Omega.{arith}
-use lib.ListN.{length, getD, take, drop}
-use denote.Ref.{now}
 use Rattle.records.proofs.Shapes.{no-block, a-block}
 use Rattle.image.proofs.Addresses.{wide-family}
 use Rattle.merged.proofs.Keys.{other-tags, range-tags, name-tags}

@@ -1,16 +1,12 @@
 -- By the tag: the range, the handle or the name (Known.antt).
 use borrow.Author.Needs.{needs}
-use mathlib.Core.Path.{_≡_, refl, sym, _∙_, ap}
-use mathlib.Core.Bool.{Bool, true, false, cond, not}
-use mathlib.Core.List.{List, [], _∷_, _++_}
-use Prim.Native.Nat.{ℕ, zero, suc, _+_, _-_, _*_, _≤_, _<_}
+use mathlib.Core.Path.{_∙_}
+use Prim.Native.Nat.{_+_, _-_, _*_}
 use native.Mathlib.Omega.{arith}
-use lib.ListN.{length, getD, take, drop}
+use lib.ListN.{length}
 use denote.Ref.{now}
 use Rattle.fields.specs.Slices.{part-slice}
-use Rattle.records.specs.Record.{widthOf}
-use Rattle.records.specs.Place.{Inside, bytesOf, handleSpan, nameSpan}
-use Rattle.merged.specs.Held.{parsedFrom}
+use Rattle.records.specs.Place.{Inside}
 use Rattle.merged.proofs.Known.{known, key-room, block-read, handle-read, name-read}
 use Rattle.merged.proofs.key_of.Statement.{statement}
 use Rattle.merged.proofs.key_of.Tie as tie

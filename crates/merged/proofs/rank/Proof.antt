@@ -1,17 +1,14 @@
 -- The rank lies between low and high (Ranks.antt).
 use borrow.Author.Needs.{needs}
-use mathlib.Core.Path.{_≡_, refl, sym, _∙_, ap}
-use mathlib.Core.Bool.{Bool, true, false, cond, not}
-use mathlib.Core.List.{List, [], _∷_, _++_}
-use Prim.Native.Nat.{ℕ, zero, suc, _+_, _-_, _*_, _≤_, _<_}
+use mathlib.Core.Path.{sym, _∙_, ap, subst}
+use mathlib.Core.List.{List}
+use Prim.Native.Nat.{ℕ, _+_, _-_, _≤_, _<_, _/_}
 use native.Mathlib.Omega.{arith}
-use lib.ListN.{length, getD, take, drop}
+use lib.ListN.{take}
 use denote.Ref.{now}
-use Prim.Native.Nat.{_/_}
-use mathlib.Core.Path.{subst}
 use Rattle.records.specs.Record.{follows}
 use Rattle.changes.specs.Change.{keyed}
-use Rattle.merged.specs.Held.{parsedFrom, bytesAt, entriesAt, Recorded}
+use Rattle.merged.specs.Held.{parsedFrom, entriesAt, Recorded}
 use Rattle.merged.proofs.Ranks.{recorded-at, Between, between-start, between-up, between-down, between-end}
 use Rattle.merged.proofs.rank.Statement.{statement}
 use Rattle.merged.proofs.rank.Tie as tie
@@ -59,9 +56,11 @@ loop-less c = search needs
 loop-again : tie.Need-loop-again Inv-loop μ-loop
 loop-again c =
     let i = c .before .before .before .before in
-    let a = i .before .before .before .before .before in
-    (i .before .loop .inv .0, between-up _ _ _ (a .args .n) (omega (arith, a .pre .0, a .pre .1)) (a .pre .2) _ _ _ _ (i .before .loop .inv .1) (middle i)
-    (sym (ap (λ (x : List ℕ). follows (parsedFrom x) (keyed (a .args .tag) (now (a .args .key)))) (c .before .before .record-at .ensures)) ∙ sym (c .before .comes-before .ensures) ∙ c .if1 .taken))
+    let a = i .before .before .before .before .before in (
+      i .before .loop .inv .0,
+      between-up _ _ _ (a .args .n) (omega (arith, a .pre .0, a .pre .1)) (a .pre .2) _ _ _ _ (i .before .loop .inv .1) (middle i)
+          (sym (ap (λ (x : List ℕ). follows (parsedFrom x) (keyed (a .args .tag) (now (a .args .key)))) (c .before .before .record-at .ensures)) ∙ sym (c .before .comes-before .ensures) ∙ c .if1 .taken),
+    )
 
 loop-less-2 : tie.Need-loop-less-2 Inv-loop μ-loop
 loop-less-2 c = search needs
@@ -69,9 +68,11 @@ loop-less-2 c = search needs
 loop-again-2 : tie.Need-loop-again-2 Inv-loop μ-loop
 loop-again-2 c =
     let i = c .before .before .before .before in
-    let a = i .before .before .before .before .before in
-    (omega (arith, middle i), between-down _ _ _ (a .args .n) (omega (arith, a .pre .0, a .pre .1)) (a .pre .2) _ _ _ _ (i .before .loop .inv .1) (middle i)
-    (sym (ap (λ (x : List ℕ). follows (parsedFrom x) (keyed (a .args .tag) (now (a .args .key)))) (c .before .before .record-at .ensures)) ∙ sym (c .before .comes-before .ensures) ∙ c .if1 .left))
+    let a = i .before .before .before .before .before in (
+      omega (arith, middle i),
+      between-down _ _ _ (a .args .n) (omega (arith, a .pre .0, a .pre .1)) (a .pre .2) _ _ _ _ (i .before .loop .inv .1) (middle i)
+          (sym (ap (λ (x : List ℕ). follows (parsedFrom x) (keyed (a .args .tag) (now (a .args .key)))) (c .before .before .record-at .ensures)) ∙ sym (c .before .comes-before .ensures) ∙ c .if1 .left),
+    )
 
 returns : tie.Need-returns Inv-loop μ-loop
 returns c =

@@ -1,12 +1,6 @@
 -- By the place the record is in the image or in the change file.
 use borrow.Author.Needs.{needs}
-use mathlib.Core.Path.{_≡_, refl, sym, _∙_, ap}
-use mathlib.Core.Bool.{Bool, true, false, cond, not}
-use mathlib.Core.List.{List, [], _∷_, _++_}
-use Prim.Native.Nat.{ℕ, zero, suc, _+_, _-_, _*_, _≤_, _<_}
-use native.Mathlib.Omega.{arith}
-use lib.ListN.{length, getD, take, drop}
-use denote.Ref.{now}
+use Prim.Native.Nat.{_-_}
 use Rattle.merged.proofs.Fields.{place-image, place-changes}
 use Rattle.merged.proofs.record_at.Statement.{statement}
 use Rattle.merged.proofs.record_at.Tie as tie

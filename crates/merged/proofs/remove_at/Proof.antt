@@ -1,13 +1,8 @@
 -- The places behind the one taken out have moved down by one, up to i.
 use borrow.Author.Needs.{needs}
-use mathlib.Core.Path.{_≡_, refl, sym, _∙_, ap}
-use mathlib.Core.Bool.{Bool, true, false, cond, not}
-use mathlib.Core.List.{List, [], _∷_, _++_}
-use Prim.Native.Nat.{ℕ, zero, suc, _+_, _-_, _*_, _≤_, _<_}
+use mathlib.Core.Path.{_≡_, _∙_}
+use Prim.Native.Nat.{suc, _+_, _-_, _≤_, _<_}
 use native.Mathlib.Omega.{arith}
-use lib.ListN.{length, getD, take, drop}
-use denote.Ref.{now}
-use lib.ListN.{length-set}
 use Rattle.merged.proofs.Index.{Moved, move-start, move-next, move-length, move-done}
 use Rattle.merged.proofs.remove_at.Statement.{statement}
 use Rattle.merged.proofs.remove_at.Tie as tie
@@ -50,18 +45,21 @@ loop-less c = search needs
 loop-again : tie.Need-loop-again Inv-loop μ-loop
 loop-again c =
     let l = c .before .before .loop in
-    let a = c .before .before .before in
-    (omega (arith, l .inv .0), omega (arith, c .before .loop-test .taken),
-    move-next _ (a .args .at) (l .i) _ (l .inv .0) (l .inv .2) (omega (arith, c .before .loop-test .taken, a .pre .0, a .pre .1)))
+    let a = c .before .before .before in (
+      omega (arith, l .inv .0),
+      omega (arith, c .before .loop-test .taken),
+      move-next _ (a .args .at) (l .i) _ (l .inv .0) (l .inv .2) (omega (arith, c .before .loop-test .taken, a .pre .0, a .pre .1)),
+    )
 
 returns : tie.Need-returns Inv-loop μ-loop
 returns c =
     let a = c .before .before in
     let l = c .before .loop in
     let e : l .i ≡ a .args .n = omega (arith, l .inv .1, c .loop-test .left) in
-    let m = rw e at (l .inv .2) in
-    (move-done _ (a .args .at) (a .args .n) _ (a .pre .2) (omega (arith, a .pre .0, a .pre .1)) m,
-    move-length _ (a .args .at) (a .args .n - suc (a .args .at)) _ m (omega (arith, a .pre)) ∙ a .pre .0)
+    let m = rw e at (l .inv .2) in (
+      move-done _ (a .args .at) (a .args .n) _ (a .pre .2) (omega (arith, a .pre .0, a .pre .1)) m,
+      move-length _ (a .args .at) (a .args .n - suc (a .args .at)) _ m (omega (arith, a .pre)) ∙ a .pre .0,
+    )
 
 pub remove-at-spec : {M : Type 1} → statement M
 remove-at-spec =

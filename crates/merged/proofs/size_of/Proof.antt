@@ -1,14 +1,12 @@
 -- The size of the first i records.
 use borrow.Author.Needs.{needs}
-use mathlib.Core.Path.{_≡_, refl, sym, _∙_, ap}
-use mathlib.Core.Bool.{Bool, true, false, cond, not}
-use mathlib.Core.List.{List, [], _∷_, _++_}
-use Prim.Native.Nat.{ℕ, zero, suc, _+_, _-_, _*_, _≤_, _<_}
+use mathlib.Core.Path.{_≡_, refl, ap}
+use Prim.Native.Nat.{_-_, _*_, _≤_}
 use native.Mathlib.Omega.{arith}
-use lib.ListN.{length, getD, take, drop}
+use lib.ListN.{length, getD, take}
 use denote.Ref.{now}
 use Rattle.rows.specs.Entry.{rowOf}
-use Rattle.merged.specs.Held.{bytesAt, entriesAt}
+use Rattle.merged.specs.Held.{entriesAt}
 use Rattle.merged.proofs.Rows.{size-next, bytes-bound}
 use Rattle.merged.proofs.size_of.Statement.{statement}
 use Rattle.merged.proofs.size_of.Tie as tie
