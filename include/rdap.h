@@ -5,17 +5,17 @@
  * It needs memcpy and memset and nothing else.
  *
  * Memory. The caller owns every buffer, before, during and after a call. Nothing is allocated and no pointer is kept.
- * path, paths, image and range are read only. A call writes to list, out, reply and part and to nothing else.
- * - path, paths, image, range, list and out may be NULL if their length is 0, and only then; nothing is read or written
- *   through them then.
- * - reply has 7 places, of rdap_prefixes 2, and part has 2; none may be NULL.
- * - list, reply and part are aligned as uint32_t is. list, out, reply and part may not overlap each other or what is read;
- *   what is read may overlap, and a range may be a part of an image.
+ * path, paths, image, range and changes are read only. A call writes to list, out, reply and part and to nothing else.
+ * - path, paths, image, range, changes, list and out may be NULL if their length is 0, and only then; nothing is read or
+ *   written through them then.
+ * - reply has 7 places, of rdap_prefixes 2, of rdap_fold 5, and part has 2; none may be NULL.
+ * - list, reply and part are aligned as uint32_t is. list, out, reply and part may not overlap each other or what is read:
+ *   no image is folded in place. What is read may overlap, and a range may be a part of an image.
  * - Buffers have the lengths that are named, and no other thread writes to them during the call.
  *
  * Calls are pure: there is no state, the result depends on the arguments alone, and no call fails, waits or sets errno.
  * Calls may run in parallel, on the same image too, if each has its own list or out and reply or part.
- * A relation needs some 75 kB of stack, in a batch too, any other call some 40 kB.
+ * A relation needs some 75 kB of stack, in a batch too, a fold some 60 kB, any other call some 40 kB.
  */
 #ifndef RDAP_H
 #define RDAP_H
@@ -102,11 +102,22 @@ void rdap_name(const uint8_t *image, size_t image_len, uint32_t record, uint32_t
  * by networks, kind 2 by AS blocks, kinds 7 and 8 by either. */
 void rdap_range(const uint8_t *image, size_t image_len, uint32_t record, uint32_t part[2]);
 
-/* The tags of blocks (S4.3) */
+/* The tags of records (S4.3); the first three are blocks. */
 enum {
     RDAP_IPV4_NETWORK = 0x10,
     RDAP_IPV6_NETWORK = 0x11,
-    RDAP_AS_BLOCK = 0x12
+    RDAP_AS_BLOCK = 0x12,
+    RDAP_DOMAIN = 0x13,
+    RDAP_NAMESERVER = 0x14,
+    RDAP_ENTITY = 0x15
+};
+
+/* The tags of the fields of a record; a record that is no block has a handle and a name alone. */
+enum {
+    RDAP_FIELD_RANGE = 0x20,
+    RDAP_FIELD_HANDLE = 0x21,
+    RDAP_FIELD_NAME = 0x22,
+    RDAP_FIELD_ACTIVE = 0x23
 };
 
 /* An out of so many bytes is never too short: IPv6 needs at most 254 prefixes, IPv4 at most 62 (310 bytes). */
@@ -123,6 +134,43 @@ enum { RDAP_PREFIXES_ROOM = 4318 };
  *
  * Under 6 and 9 the whole out is unchanged. */
 void rdap_prefixes(const uint8_t *range, size_t range_len, uint8_t *out, size_t out_len, uint32_t reply[2]);
+
+/* The most bytes of an image, so that an out of as many is never too short for a fold, and of a change file. */
+enum { RDAP_IMAGE_BYTES = 262144, RDAP_CHANGES_BYTES = 65536 };
+
+/* The tags of changes (S4.8). A change file is a row of changes. Each is a field, as in an image: its tag, the length of its
+ * contents in two bytes, high byte first, and its contents. An empty file has no change. */
+enum {
+    RDAP_ADD = 0x30,   /* holds a whole record: its tag, its length and its fields (S4.3) */
+    RDAP_REMOVE = 0x31 /* holds the tag of a record, one byte, then its bare key: of a block the contents of its field 20,
+                          of a domain or nameserver its name, of an entity its handle */
+};
+
+/* The places of the reply of rdap_fold */
+enum {
+    RDAP_FOLD_REASON, /* 0 folded, else why not */
+    RDAP_FOLD_COUNT,  /* under reason 0 the bytes of the final image, under 9 the bytes that are needed, else 0 */
+    RDAP_FOLD_DEFECT, /* under reasons 2 and 12 what is wrong, 1 to 7 (S5.1), else 0 */
+    RDAP_FOLD_PLACE,  /* the number of the record that has the defect, under 2 in the image, under 12 in the final image;
+                         else 0 */
+    RDAP_FOLD_OFFSET, /* under reason 11 where in changes the tag of the change at fault stands, else 0 */
+    RDAP_FOLD_REPLY_PLACES
+};
+
+/* Folds a change file into an image and writes the final image to out (S2.8). The changes apply in order, each to what the
+ * changes before it made. Overlaps and the limits of an image are judged of the final image alone.
+ * It takes no path and gives a reason without a status. The first that applies is given, in this order:
+ *
+ *   2  image defective; defect and place say how
+ *  11  a change is malformed, removes a record that isn't there or adds one whose key is already there; offset is that of
+ *      the first such change, and 0 if changes has more than RDAP_CHANGES_BYTES bytes
+ *  12  the final image would be defective; defect and place say how: 1 too long, 3 more than 4,096 records, 7 overlap
+ *   9  out is too short; count is the number of bytes needed
+ *   0  folded; the first count bytes of out are the final image, which is sound, and the rest is unchanged
+ *
+ * Under every reason but 0 the whole out is unchanged. Records may have other numbers in the final image. */
+void rdap_fold(const uint8_t *image, size_t image_len, const uint8_t *changes, size_t changes_len,
+               uint8_t *out, size_t out_len, uint32_t reply[5]);
 
 #ifdef __cplusplus
 }

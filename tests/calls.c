@@ -102,6 +102,65 @@ static void ranges(void)
     prefixes("no range, no bytes", NULL, 0, 0);
 }
 
+/* The reply of rdap_fold, and an out of 44 bytes of which it is lent the first ones. */
+static void fold(const char *name, size_t image_len, const uint8_t *changes, size_t changes_len, size_t room)
+{
+    uint8_t out[44];
+    uint32_t bytes[44];
+    uint32_t reply[RDAP_FOLD_REPLY_PLACES];
+
+    memset(out, 7, 44);
+    rdap_fold(image_len == 0 ? NULL : image, image_len, changes_len == 0 ? NULL : changes, changes_len,
+              room == 0 ? NULL : out, room, reply);
+    line(name, reply, RDAP_FOLD_REPLY_PLACES);
+    for (int i = 0; i < 44; i++)
+        bytes[i] = out[i];
+    line("out", bytes, 44);
+}
+
+/* An entity to add, twice, and the AS block to remove, twice. */
+static void folds(void)
+{
+    const uint8_t added[28] = {RDAP_ADD, 0, 11, RDAP_ENTITY, 0, 8, RDAP_FIELD_HANDLE, 0, 1, 'E', RDAP_FIELD_NAME, 0, 1, 'N',
+                               RDAP_ADD, 0, 11, RDAP_ENTITY, 0, 8, RDAP_FIELD_HANDLE, 0, 1, 'E', RDAP_FIELD_NAME, 0, 1, 'O'};
+    const uint8_t removed[24] = {RDAP_REMOVE, 0, 9, RDAP_AS_BLOCK, 0, 0, 0, 12, 0, 0, 0, 15,
+                                 RDAP_REMOVE, 0, 9, RDAP_AS_BLOCK, 0, 0, 0, 12, 0, 0, 0, 15};
+
+    fold("fold, no changes", 30, NULL, 0, 44);
+    fold("no changes, 30 bytes", 30, NULL, 0, 30);
+    fold("no changes, 29 bytes", 30, NULL, 0, 29);
+    fold("an entity added", 30, added, 14, 44);
+    fold("added, 41 bytes", 30, added, 14, 41);
+    fold("added, 40 bytes", 30, added, 14, 40);
+    fold("added, no bytes", 30, added, 14, 0);
+    fold("added twice", 30, added, 28, 44);
+    fold("added, cut", 30, added, 13, 44);
+    fold("added twice, cut", 30, added, 27, 44);
+    fold("the block removed", 30, removed, 12, 44);
+    fold("removed, 4 bytes", 30, removed, 12, 4);
+    fold("removed, 3 bytes", 30, removed, 12, 3);
+    fold("removed twice", 30, removed, 24, 44);
+    fold("removed twice, no bytes", 30, removed, 24, 0);
+}
+
+/* What is wrong with a file as a whole, with the final image and with the image. */
+static void folds_refused(void)
+{
+    static const uint8_t long_file[RDAP_CHANGES_BYTES + 1] = {RDAP_REMOVE, 0, 9, RDAP_AS_BLOCK, 0, 0, 0, 12, 0, 0, 0, 15};
+    const uint8_t overlap[29] = {RDAP_ADD, 0, 26, RDAP_AS_BLOCK, 0, 23, RDAP_FIELD_RANGE, 0, 8, 0, 0, 0, 14, 0, 0, 0, 20,
+                                 RDAP_FIELD_HANDLE, 0, 1, 'O', RDAP_FIELD_NAME, 0, 1, 'O', RDAP_FIELD_ACTIVE, 0, 1, 1};
+
+    fold("removed, then another tag", 30, long_file, RDAP_CHANGES_BYTES, 44);
+    fold("65,537 bytes", 30, long_file, RDAP_CHANGES_BYTES + 1, 44);
+    fold("an overlap", 30, overlap, 29, 44);
+    fold("an overlap, no bytes", 30, overlap, 29, 0);
+    fold("cut image", 29, NULL, 0, 44);
+    fold("cut image, 65,537 bytes", 29, long_file, RDAP_CHANGES_BYTES + 1, 44);
+    fold("no image", 0, NULL, 0, 44);
+    fold("no image, an overlap", 0, overlap, 29, 44);
+    fold("nothing", 0, NULL, 0, 0);
+}
+
 int main(void)
 {
     const uint8_t *path = (const uint8_t *)"/autnum/12";
@@ -138,5 +197,7 @@ int main(void)
     line("no image", part, 2);
     batches();
     ranges();
+    folds();
+    folds_refused();
     return 0;
 }

@@ -19,7 +19,17 @@ writes() {
     told "$1 $2: '$got', exit status $status, '$error'" $?
 }
 
-for source in examples/c/answer.c examples/c/prefixes.c tests/calls.c; do
+# renames HANDLE NAME IMAGE STATUS [ERROR]: the same of the example that writes an image, which is kept
+renames() {
+    local status error
+    "$out/rename" "$1" "$2" "$3" >"$out/renamed.image" 2>"$out/error"
+    status=$?
+    error=$(cat "$out/error")
+    [ "$status" -eq "$4" ] && [ "$error" = "${5-}" ]
+    told "rename $1 '$2': exit status $status, '$error'" $?
+}
+
+for source in examples/c/answer.c examples/c/prefixes.c examples/c/rename.c tests/calls.c; do
     gcc -Wall -Wextra -Werror -O2 -Iinclude "$source" "$archive" -o "$out/$(basename "$source" .c)"
     told "build $source" $?
 done
@@ -47,6 +57,16 @@ writes prefixes '/ips?name=campus*' "$campus" $'NET-10 10.0.0.0/8\nNET6-1 2001:d
 writes prefixes /autnum/12 "$campus" '' 1 'record 17 is no IP network'
 writes prefixes /domain/exam.com "$campus" '' 1 'record 23 is no IP network'
 writes prefixes /ips/rirSearch1/down/11.0.0.0/8 "$campus" '' 0
+
+writes answer /entity/ENT-1 "$campus" $'200 0 5 0 1 0 0\n32 ENT-1 Ada L' 0
+renames ENT-1 'Ada Lovelace' "$campus" 0
+writes answer /entity/ENT-1 "$out/renamed.image" $'200 0 5 0 1 0 0\n32 ENT-1 Ada Lovelace' 0
+writes answer /entity/ENT-10 "$out/renamed.image" $'200 0 5 0 1 0 0\n33 ENT-10 ada l' 0
+renames ENT-3 'Cyd' "$campus" 1 'reason 11, defect 0, place 0, offset 0'
+[ ! -s "$out/renamed.image" ]
+told "nothing is written on a refusal" $?
+renames ENT-1 '' "$campus" 1 'reason 11, defect 0, place 0, offset 9'
+renames ENT-1 'Ada Lovelace' tests/vectors/defective.image 1 'reason 2, defect 3, place 37, offset 0'
 
 "$out/calls" | diff - tests/calls.expected
 told "tests/calls.c" $?
