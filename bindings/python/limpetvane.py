@@ -6,15 +6,18 @@
     library.handle(image, 2)                            # b"S2"
     library.batch(["/ip/192.0.2.1", "/x"], image)       # [Answer(..), Refused(..)]
     library.record_prefixes(image, 2)                   # [IPv4Network("192.0.2.0/28")]
+    changes = limpetvane.Changes().remove_entity("E1").add_entity("E2", "Ada L")
+    library.fold(image, changes)                        # the bytes of the final image
 
 A refusal is raised as Refused, with its reason and status; that of a path in a batch is a value in the list.
-That of a range, which has no status, is raised as RangeRefused.
+That of a range or of a fold, which has no status, is raised as RangeRefused or FoldRefused.
 Calls are pure and may run in threads.
 """
 import ctypes
 import enum
+import operator
 from ipaddress import IPv4Address, IPv4Network, IPv6Address, IPv6Network
-from typing import List, NamedTuple, Optional, Sequence, Union
+from typing import List, NamedTuple, Optional, Sequence, Tuple, Union
 
 #: An image has at most so many records, so a list of so many places is never too short.
 RECORDS = 4096
@@ -22,9 +25,16 @@ RECORDS = 4096
 PATHS = 64
 #: The prefixes of a range take at most so many bytes: 254 of IPv6, of 17 bytes each.
 PREFIXES_ROOM = 4318
+#: An image has at most so many bytes, so a room of so many is never too short for a fold.
+IMAGE_BYTES = 262144
+#: A change file has at most so many bytes.
+CHANGES_BYTES = 65536
 
 Address = Union[IPv4Address, IPv6Address]
 Network = Union[IPv4Network, IPv6Network]
+#: A network, or the first and the last address of a range.
+Addresses = Union[Network, Tuple[Address, Address]]
+Text = Union[str, bytes]
 
 
 class Kind(enum.IntEnum):
@@ -47,6 +57,16 @@ class Relation(enum.IntEnum):
     DOWN = 2
     TOP = 3
     BOTTOM = 4
+
+
+class Tag(enum.IntEnum):
+    """The tag of a record."""
+    IPV4_NETWORK = 0x10
+    IPV6_NETWORK = 0x11
+    AS_BLOCK = 0x12
+    DOMAIN = 0x13
+    NAMESERVER = 0x14
+    ENTITY = 0x15
 
 
 class Answer(NamedTuple):
@@ -88,10 +108,109 @@ class RangeRefused(Exception):
         return f"reason {self.reason}"
 
 
-#: The tag of an AS block, and how far before its range the tag of a block stands.
-_AS_BLOCK, _TAG_BEFORE = 0x12, 6
+class FoldRefused(Exception):
+    """A refusal of a fold, which has a reason and no status: 2 if the image is defective, 11 if a change is at fault, 12 if the
+    final image would be defective, 9 if there is too little room. Under 2 and 12 defect and place say how; under 11 offset is
+    where in the file the change stands, and 0 if the file is too long; under 9 count is the number of bytes needed."""
+
+    def __init__(self, reason, count, defect, place, offset, words):
+        super().__init__(reason, count, defect, place, offset, words)
+        self.reason, self.count, self.defect, self.place, self.offset = reason, count, defect, place, offset
+
+    def __str__(self):
+        return f"reason {self.reason}: {self.args[5]}"
+
+
+#: The tags of the fields of a record, and of changes.
+_RANGE, _HANDLE, _NAME, _ACTIVE = 0x20, 0x21, 0x22, 0x23
+_ADD, _REMOVE = 0x30, 0x31
+
+
+class _Key(NamedTuple):
+    """What the records of a tag are sorted and removed by, and the same in words."""
+    tag: Tag
+    contents: bytes
+    words: str
+
+
+class Changes:
+    """A change file, built change by change: bytes(changes) is the file, and len(changes) its number of bytes.
+
+        Changes().remove_domain("old.example").add_domain("new.example", "D-1")
+
+    Changes apply in the order in which they are made. A block is removed by its range, a domain or nameserver by its name, an entity
+    by its handle. Texts are ASCII or bytes and are taken as they are: the fold judges them, and refuses a host name in capitals or
+    a first above its last. What no change can spell raises ValueError or TypeError: text that is not ASCII or has above 65,535 bytes,
+    a number of more than 32 bits, addresses of two families or with a scope."""
+
+    def __init__(self):
+        self._file, self._words = bytearray(), {}
+
+    def __bytes__(self):
+        return bytes(self._file)
+
+    def __len__(self):
+        return len(self._file)
+
+    def change_at(self, offset: int) -> Tuple[int, str]:
+        """The change that starts at an offset of the file, as FoldRefused has it: its index, counted from 0, and what it does.
+        Raises ValueError if none starts there."""
+        return list(self._words).index(offset), self._words[offset]
+
+    def add_network(self, network: Addresses, handle: Text, name: Text, active: bool = True) -> "Changes":
+        """Adds an IPv4Network or IPv6Network, or a pair of first and last address."""
+        return self._add_block(_network(network), handle, name, active)
+
+    def add_as_block(self, first: int, last: int, handle: Text, name: Text, active: bool = True) -> "Changes":
+        """Adds the AS numbers from first to last."""
+        return self._add_block(_as_block(first, last), handle, name, active)
+
+    def add_domain(self, name: Text, handle: Text) -> "Changes":
+        return self._add(_named(Tag.DOMAIN, name), _texts(handle, name))
+
+    def add_nameserver(self, name: Text, handle: Text) -> "Changes":
+        return self._add(_named(Tag.NAMESERVER, name), _texts(handle, name))
+
+    def add_entity(self, handle: Text, name: Text) -> "Changes":
+        return self._add(_named(Tag.ENTITY, handle), _texts(handle, name))
+
+    def remove_network(self, network: Addresses) -> "Changes":
+        """Removes the network of exactly these addresses."""
+        return self._remove(_network(network))
+
+    def remove_as_block(self, first: int, last: int) -> "Changes":
+        return self._remove(_as_block(first, last))
+
+    def remove_domain(self, name: Text) -> "Changes":
+        return self._remove(_named(Tag.DOMAIN, name))
+
+    def remove_nameserver(self, name: Text) -> "Changes":
+        return self._remove(_named(Tag.NAMESERVER, name))
+
+    def remove_entity(self, handle: Text) -> "Changes":
+        return self._remove(_named(Tag.ENTITY, handle))
+
+    def _add_block(self, key, handle, name, active):
+        status = _field(_ACTIVE, bytes([bool(active)]))
+        return self._add(key, _field(_RANGE, key.contents) + _texts(handle, name) + status)
+
+    def _add(self, key, fields):
+        return self._append(f"add {key.words}", _field(_ADD, _field(key.tag, fields)))
+
+    def _remove(self, key):
+        return self._append(f"remove {key.words}", _field(_REMOVE, bytes([key.tag]) + key.contents))
+
+    def _append(self, words, change):
+        self._words[len(self._file)] = words
+        self._file += change
+        return self
+
+
+#: How far before its range the tag of a block stands.
+_TAG_BEFORE = 6
 _Reply = ctypes.c_uint32 * 7
 _Pair = ctypes.c_uint32 * 2
+_FoldReply = ctypes.c_uint32 * 5
 
 
 class Library:
@@ -100,6 +219,7 @@ class Library:
     def __init__(self, path: str):
         library = ctypes.CDLL(path)
         bytes_in = [ctypes.c_char_p, ctypes.c_size_t]
+        bytes_out = [ctypes.POINTER(ctypes.c_char), ctypes.c_size_t, ctypes.POINTER(ctypes.c_uint32)]
         numbers_out = [ctypes.POINTER(ctypes.c_uint32), ctypes.c_size_t, ctypes.POINTER(ctypes.c_uint32)]
         self._answer = library.rdap_answer
         self._batch = library.rdap_batch
@@ -115,8 +235,10 @@ class Library:
         for function in self._parts:
             function.argtypes = bytes_in + [ctypes.c_uint32, ctypes.POINTER(ctypes.c_uint32)]
         self._prefixes = library.rdap_prefixes
-        self._prefixes.argtypes = bytes_in + [ctypes.POINTER(ctypes.c_char), ctypes.c_size_t, ctypes.POINTER(ctypes.c_uint32)]
-        for function in (self._answer, self._batch, *self._relations.values(), *self._parts, self._prefixes):
+        self._prefixes.argtypes = bytes_in + bytes_out
+        self._fold = library.rdap_fold
+        self._fold.argtypes = bytes_in + bytes_in + bytes_out
+        for function in (self._answer, self._batch, *self._relations.values(), *self._parts, self._prefixes, self._fold):
             function.restype = None
 
     def answer(self, path: Union[str, bytes], image: bytes, places: int = RECORDS) -> Answer:
@@ -160,11 +282,7 @@ class Library:
         """The prefixes that together hold exactly first to last, ascending; no shorter list does. RangeRefused has reason 6
         if first is above last, and 9 with fewer bytes of room than the prefixes take, 5 or 17 each. Addresses of two families
         or other types raise TypeError, and one with a scope (fe80::1%eth0) ValueError: a prefix has none."""
-        if {type(first), type(last)} not in ({IPv4Address}, {IPv6Address}):
-            raise TypeError("first and last are not two IPv4Address or two IPv6Address")
-        if any(getattr(address, "scope_id", None) is not None for address in (first, last)):
-            raise ValueError("an address with a scope")
-        return self._networks(first.packed + last.packed, room)
+        return self._networks(_bounds(first, last), room)
 
     def record_prefixes(self, image: bytes, record: int) -> List[Network]:
         """The prefixes of an IP network's range. Raises ValueError if the record is an AS block or no block,
@@ -174,9 +292,19 @@ class Library:
         if span.start == span.stop:
             known = self.handle(image, record)
             raise ValueError(f"record {record} is no block" if known else f"no record {record}, or a defective image")
-        if image[span.start - _TAG_BEFORE] == _AS_BLOCK:
+        if image[span.start - _TAG_BEFORE] == Tag.AS_BLOCK:
             raise ValueError(f"record {record} is an AS block")
         return self._networks(image[span], PREFIXES_ROOM)
+
+    def fold(self, image: bytes, changes: Union[bytes, Changes], room: int = IMAGE_BYTES) -> bytes:
+        """Folds a change file into an image and gives the final image, in which records may have other numbers. FoldRefused has
+        reason 2, 11 or 12, or 9 with fewer bytes of room than the final image takes."""
+        image, file = bytes(image), bytes(changes)
+        out, reply = (ctypes.c_char * room)(), _FoldReply()
+        self._fold(image, len(image), file, len(file), out, room, reply)
+        if reply[0] != 0:
+            raise FoldRefused(*reply, _fault(reply, changes, file))
+        return out[:reply[1]]
 
     @staticmethod
     def _call(function, arguments, places):
@@ -240,3 +368,68 @@ def _number(record):
     if not 0 <= record < 2 ** 32:
         raise ValueError("a record number has 32 bits")
     return record
+
+
+def _bounds(first, last):
+    """The bytes of a range of addresses."""
+    if {type(first), type(last)} not in ({IPv4Address}, {IPv6Address}):
+        raise TypeError("first and last are not two IPv4Address or two IPv6Address")
+    if any(getattr(address, "scope_id", None) is not None for address in (first, last)):
+        raise ValueError("an address with a scope")
+    return first.packed + last.packed
+
+
+def _network(network):
+    if isinstance(network, (IPv4Network, IPv6Network)):
+        network = network.network_address, network.broadcast_address
+    first, last = network
+    bounds = _bounds(first, last)
+    return _Key(Tag.IPV4_NETWORK if len(bounds) == 8 else Tag.IPV6_NETWORK, bounds, f"network {first} to {last}")
+
+
+def _as_block(first, last):
+    first, last = operator.index(first), operator.index(last)
+    if not 0 <= min(first, last) <= max(first, last) < 2 ** 32:
+        raise ValueError("an AS number has 32 bits")
+    return _Key(Tag.AS_BLOCK, first.to_bytes(4, "big") + last.to_bytes(4, "big"), f"AS block {first} to {last}")
+
+
+def _named(tag, text):
+    return _Key(tag, _ascii(text), f"{tag.name.lower()} {text!r}")
+
+
+def _ascii(text):
+    return text.encode("ascii") if isinstance(text, str) else bytes(memoryview(text))
+
+
+def _texts(handle, name):
+    return _field(_HANDLE, _ascii(handle)) + _field(_NAME, _ascii(name))
+
+
+def _field(tag, contents):
+    if len(contents) >= 2 ** 16:
+        raise ValueError("a field holds at most 65,535 bytes")
+    return bytes([tag]) + len(contents).to_bytes(2, "big") + contents
+
+
+#: What is wrong with an image, by its defect.
+_DEFECTS = (
+    "none", "it is too long", "it has a wrong start", "record {} is cut short, has an unknown tag or is one too many",
+    "record {} has wrong fields", "record {} has wrong contents", "record {} is out of order",
+    "record {} overlaps an earlier block without lying inside it",
+)
+
+
+def _fault(reply, changes, file):
+    """The refusal of a fold in words."""
+    reason, count, defect, place, offset = reply
+    if reason == 9:
+        return f"{count} bytes are needed"
+    if reason != 11:
+        image = "the image is" if reason == 2 else "the final image would be"
+        return f"{image} defective: {_DEFECTS[defect].format(place)}"
+    if len(file) > CHANGES_BYTES:
+        return f"the change file has {len(file)} bytes, more than {CHANGES_BYTES}"
+    change = "change {} ({})".format(*changes.change_at(offset)) if isinstance(changes, Changes) else "the change"
+    also = {_ADD: " or adds a key that is already there", _REMOVE: " or removes a record that isn't there"}
+    return f"{change} at byte {offset} is malformed{also.get(file[offset], '')}"

@@ -4,9 +4,10 @@ import pathlib
 import pickle
 import random
 import unittest
-from ipaddress import IPv4Address, IPv4Interface, IPv6Address, summarize_address_range
+from itertools import accumulate
+from ipaddress import IPv4Address, IPv4Interface, IPv4Network, IPv6Address, IPv6Network, summarize_address_range
 
-from limpetvane import PATHS, RECORDS, Answer, Kind, Library, RangeRefused, Refused, Relation
+from limpetvane import CHANGES_BYTES, IMAGE_BYTES, PATHS, RECORDS, Answer, Changes, FoldRefused, Kind, Library, RangeRefused, Refused, Relation, Tag
 
 LIBRARY = Library(os.environ["RDAP_SO"])
 VECTORS = pathlib.Path(__file__).resolve().parents[2] / "tests" / "vectors"
@@ -170,14 +171,22 @@ class Batches(unittest.TestCase):
             LIBRARY.batch(["/help"], S, -1)
 
 
-def rows(function):
-    """The calls of a function in the vectors of ranges: inputs, room, reply and output."""
-    folder = VECTORS / "changes" / "03"
-    column = lambda text: b"" if text == "-" else (folder / text[1:]).read_bytes() if text[0] == "@" else bytes.fromhex(text)
-    for row in (folder / "rows.tsv").read_text().split("\n")[:-1]:
-        name, first, second, room, reply, output, *_ = row.split("\t")
-        if name == function:
-            yield column(first), second, room, tuple(map(int, reply.split())), column(output)
+#: The number of the newest change: a row holds if it says so.
+NEWEST = max(int(folder.name) for folder in (VECTORS / "changes").iterdir() if folder.is_dir())
+
+
+def column(change, text):
+    """The bytes that a column stands for."""
+    file = VECTORS / "changes" / change / text[1:]
+    return b"" if text == "-" else file.read_bytes() if text[0] == "@" else bytes.fromhex(text)
+
+
+def rows(change, function):
+    """The calls of a function in the vectors of a change: first input (bytes), second, room, reply (numbers) and output."""
+    for row in (VECTORS / "changes" / change / "rows.tsv").read_text().split("\n")[1:-1]:
+        name, first, second, room, reply, output, _, until, _ = row.split("\t")
+        if name == function and NEWEST <= int(until):
+            yield column(change, first), second, room, tuple(map(int, reply.split())), output
 
 
 def bounds(text):
@@ -210,7 +219,7 @@ class Prefixes(unittest.TestCase):
 
     def test_vectors(self):
         seen = set()
-        for text, _, room, (reason, count), output in rows("rdap_prefixes"):
+        for text, _, room, (reason, count), output in rows("03", "rdap_prefixes"):
             if len(text) not in (8, 32):  # not two addresses of a family
                 continue
             seen.add(reason)
@@ -219,12 +228,12 @@ class Prefixes(unittest.TestCase):
                 continue
             prefixes = LIBRARY.prefixes(*bounds(text), room=int(room))
             self.assertEqual(len(prefixes), count)
-            self.assertEqual(b"".join(p.network_address.packed + bytes([p.prefixlen]) for p in prefixes), output, text)
+            self.assertEqual(b"".join(p.network_address.packed + bytes([p.prefixlen]) for p in prefixes), column("03", output), text)
         self.assertEqual(seen, {0, 6, 9})
 
     def test_ranges_of_records(self):
         seen = 0
-        for image, record, _, (offset, length), _ in rows("rdap_range"):
+        for image, record, _, (offset, length), _ in rows("03", "rdap_range"):
             self.assertEqual(LIBRARY.range(image, int(record)), image[offset:offset + length], record)
             seen += length != 0
         self.assertEqual(seen, 21)
@@ -267,6 +276,249 @@ class Prefixes(unittest.TestCase):
             LIBRARY.prefixes(four, four, -1)
         refusal = RangeRefused(9, 62)
         self.assertEqual((str(refusal), pickle.loads(pickle.dumps(refusal)).args), ("reason 9", (9, 62)))
+
+
+def fields(text):
+    """The fields of a row of fields, as tag and contents."""
+    found = []
+    while text:
+        end = 3 + int.from_bytes(text[1:3], "big")
+        found.append((text[0], text[3:end]))
+        text = text[end:]
+    return found
+
+
+def field(tag, contents):
+    return bytes([tag]) + len(contents).to_bytes(2, "big") + contents
+
+
+def key(tag, text):
+    """The key of a record as the methods of Changes take it."""
+    if tag == Tag.AS_BLOCK:
+        return int.from_bytes(text[:4], "big"), int.from_bytes(text[4:], "big")
+    return (bounds(text),) if tag < Tag.AS_BLOCK else (text,)
+
+
+def again(file):
+    """A change file whose changes are well formed, made again by Changes."""
+    changes = Changes()
+    names = {Tag.IPV4_NETWORK: "network", Tag.IPV6_NETWORK: "network"}
+    for change, contents in fields(file):
+        tag = Tag(contents[0])
+        method = names.get(tag, tag.name.lower())
+        if change == 0x31:
+            getattr(changes, f"remove_{method}")(*key(tag, contents[1:]))
+            continue
+        parts = [part for _, part in fields(contents[3:])]
+        if tag <= Tag.AS_BLOCK:
+            arguments = [*key(tag, parts[0]), *parts[1:3], parts[3] == b"\1"]
+        else:
+            arguments = parts if tag == Tag.ENTITY else parts[::-1]
+        getattr(changes, f"add_{method}")(*arguments)
+    return changes
+
+
+def refusal(image, changes, **room):
+    """The refusal of a fold, or None."""
+    try:
+        LIBRARY.fold(image, changes, **room)
+    except FoldRefused as refused:
+        return refused
+
+
+def handles(path, image):
+    """The handles of the records that answer, or the reason of a refusal."""
+    answer = value(LIBRARY.answer, path, image)
+    return answer.reason if isinstance(answer, Refused) else [LIBRARY.handle(image, record).decode() for record in answer.records]
+
+
+class Folds(unittest.TestCase):
+    def test_vectors(self):
+        seen = set()
+        for image, file, room, reply, output in rows("05", "rdap_fold"):
+            file, room = column("05", file), int(room)
+            seen.add(reply[0])
+            if reply[0] == 0:
+                self.assertEqual(LIBRARY.fold(image, file, room), column("05", output))
+                self.assertEqual(len(column("05", output)), reply[1])
+            else:
+                self.assertEqual(refusal(image, file, room=room).args[:5], reply)
+        self.assertEqual(seen, {0, 2, 9, 11, 12})
+
+    def test_answers(self):
+        asked = list(rows("05", "rdap_answer"))
+        for image, path, places, reply, output in asked:
+            answer = value(LIBRARY.answer, column("05", path), image, int(places))
+            if reply[1] == 0:
+                self.assertEqual(answer, Answer(reply[2], reply[3], [] if output == "-" else list(map(int, output.split()))))
+            else:
+                self.assertEqual(answer, Refused(reply))
+        self.assertEqual({reply[1] for _, _, _, reply, _ in asked}, {0, 8})
+
+    def test_built_again(self):
+        seen = 0
+        for image, file, room, (reason, _, _, _, offset), output in rows("05", "rdap_fold"):
+            file = column("05", file)
+            if reason == 11:
+                file = file[:offset]  # what comes before is well formed
+            elif reason == 2:
+                continue
+            changes = again(file)
+            self.assertEqual((bytes(changes), len(changes)), (file, len(file)))
+            if reason == 0:
+                self.assertEqual(LIBRARY.fold(image, changes, int(room)), column("05", output))
+            seen += len(file) != 0
+        self.assertGreater(seen, 300)
+
+    def test_joining(self):
+        """Two files in turn are their joining, where both are accepted: the files of the vectors, cut between changes."""
+        seen = 0
+        for image, file, _, (reason, *_), output in rows("05", "rdap_fold"):
+            file = column("05", file)
+            ends = list(accumulate(3 + len(contents) for _, contents in fields(file))) if reason == 0 else []
+            for end in ends[:-1:len(ends) // 8 + 1]:
+                if refusal(image, file[:end]) is None:
+                    between = LIBRARY.fold(image, file[:end])
+                    self.assertEqual(LIBRARY.fold(between, file[end:]), column("05", output))
+                    seen += 1
+        self.assertGreater(seen, 150)
+
+    def test_bytes(self):
+        network, pair = IPv4Network("10.0.2.0/24"), (IPv6Address("2001:db8::1"), IPv6Address("2001:db8::2"))
+        texts, four, as_range = "21000148 2200014e", "0a000200 0a0002ff", "0000000c 0000000f"
+        six = "20010db8000000000000000000000001 20010db8000000000000000000000002"
+        changes = [
+            (Changes().add_network(network, "H", "N"), f"30001a 100017 200008 {four} {texts} 23000101"),
+            (Changes().add_network(network, b"H", b"N", active=False), f"30001a 100017 200008 {four} {texts} 23000100"),
+            (Changes().add_network((network[0], network[-1]), "H", "N"), f"30001a 100017 200008 {four} {texts} 23000101"),
+            (Changes().add_network(pair, "H", "N", False), f"300032 11002f 200020 {six} {texts} 23000100"),
+            (Changes().add_as_block(12, 15, "H", "N"), f"30001a 120017 200008 {as_range} {texts} 23000101"),
+            (Changes().add_domain("a.b", "H"), "30000d 13000a 21000148 220003612e62"),
+            (Changes().add_nameserver("a.b", "H"), "30000d 14000a 21000148 220003612e62"),
+            (Changes().add_entity("H", "A b"), "30000d 15000a 21000148 220003412062"),
+            (Changes().remove_network(network), f"310009 10 {four}"),
+            (Changes().remove_network(pair), f"310021 11 {six}"),
+            (Changes().remove_as_block(12, 15), f"310009 12 {as_range}"),
+            (Changes().remove_domain("a.b"), "310004 13 612e62"),
+            (Changes().remove_nameserver(b"a.b"), "310004 14 612e62"),
+            (Changes().remove_entity("H"), "310002 15 48"),
+            (Changes().add_entity("H", "A b").remove_entity("H"), "30000d 15000a 21000148 220003412062 310002 15 48"),
+            (Changes(), ""),
+        ]
+        for made, wanted in changes:
+            self.assertEqual(bytes(made).hex(), wanted.replace(" ", ""))
+
+    def test_added(self):
+        """Each kind of record, added to campus and removed again: what a path finds before and after."""
+        four, six = IPv4Network("10.0.2.0/24"), (IPv6Address("2001:db8:2::"), IPv6Address("2001:db8:2::5"))
+        kinds = [
+            (Changes().add_network(four, "NEW", "New"), Changes().remove_network(four), "/ip/10.0.2.9", ["NET-10-0"]),
+            (Changes().add_network(six, "NEW", "New"), Changes().remove_network(six), "/ip/2001:db8:2::5", ["NET6-1"]),
+            (Changes().add_as_block(14, 15, "NEW", "New"), Changes().remove_as_block(14, 15), "/autnum/15", ["AS12"]),
+            (Changes().add_domain("new.example", "NEW"), Changes().remove_domain("new.example"), "/domain/new.example", 8),
+            (Changes().add_nameserver("ns.new", "NEW"), Changes().remove_nameserver("ns.new"), "/nameserver/ns.new", 8),
+            (Changes().add_entity("NEW", "New"), Changes().remove_entity("NEW"), "/entity/NEW", 8),
+        ]
+        for added, removed, path, before in kinds:
+            self.assertEqual(handles(path, CAMPUS), before)
+            image = LIBRARY.fold(CAMPUS, added)
+            self.assertEqual(handles(path, image), ["NEW"], path)
+            self.assertEqual(LIBRARY.fold(image, removed), CAMPUS)
+            self.assertEqual(LIBRARY.fold(CAMPUS, bytes(added) + bytes(removed)), CAMPUS)
+            self.assertEqual(refusal(image, added).args[:5], (11, 0, 0, 0, 0))
+            self.assertEqual(refusal(CAMPUS, removed).args[:5], (11, 0, 0, 0, 0))
+
+    def test_removed(self):
+        """Each kind of record of campus, removed: what a path finds before and after."""
+        kinds = [
+            (Changes().remove_network(IPv4Network("10.0.0.0/16")), "/ip/10.0.2.9", ["NET-10-0"], ["NET-10"]),
+            (Changes().remove_network(IPv6Network("2001:db8::/32")), "/ip/2001:db8:2::5", ["NET6-1"], 8),
+            (Changes().remove_as_block(12, 15), "/autnums/rirSearch1/down/0-99", ["AS0", "AS12"], ["AS0", "AS13"]),
+            (Changes().remove_domain("exam.com"), "/domains?name=exam*", ["D3", "D4", "D5"], ["D4", "D5"]),
+            (Changes().remove_nameserver("ns2.example.com"), "/nameservers?name=ns2*", ["N2", "N2"], ["N2"]),
+            (Changes().remove_entity("ENT-1"), "/entities?handle=ENT-1*", ["ENT-1", "ENT-10"], ["ENT-10"]),
+        ]
+        for removed, path, before, after in kinds:
+            self.assertEqual(handles(path, CAMPUS), before)
+            self.assertEqual(handles(path, LIBRARY.fold(CAMPUS, removed)), after, path)
+
+    def test_all(self):
+        """The records of campus, added to an empty registry, first to last and last to first."""
+        records = [field(0x30, field(*record)) for record in fields(CAMPUS[4:])]
+        for added in (b"".join(records), b"".join(records[::-1])):
+            self.assertEqual(LIBRARY.fold(CAMPUS[:4], again(added)), CAMPUS)
+
+    def test_refusals(self):
+        network, pair = IPv4Network("10.0.0.0/24"), (IPv4Address("10.1.255.0"), IPv4Address("10.2.0.9"))
+        changes = Changes().remove_domain("exam.com").add_network(network, "NEW", "New").remove_entity("ENT-3").add_domain("A.b", "D")
+        overlap = Changes().add_network(pair, "NEW", "New")
+        cases = [
+            (refusal(CAMPUS, changes), "11: change 2 (remove entity 'ENT-3') at byte 45 is malformed or removes a record that isn't there"),
+            (refusal(CAMPUS, bytes(changes)), "11: the change at byte 45 is malformed or removes a record that isn't there"),
+            (refusal(CAMPUS, bytes(changes)[:11]), "11: the change at byte 0 is malformed or removes a record that isn't there"),
+            (refusal(CAMPUS, Changes().add_domain("A.b", "D")),
+             "11: change 0 (add domain 'A.b') at byte 0 is malformed or adds a key that is already there"),
+            (refusal(CAMPUS, b"\x32"), "11: the change at byte 0 is malformed"),
+            (refusal(CAMPUS, bytes(CHANGES_BYTES + 1)), "11: the change file has 65537 bytes, more than 65536"),
+            (refusal(CAMPUS, overlap), "12: the final image would be defective: record 6 overlaps an earlier block without lying inside it"),
+            (refusal(CAMPUS, b"", room=1732), "9: 1733 bytes are needed"),
+            (refusal(bytes(IMAGE_BYTES + 1), b""), "2: the image is defective: it is too long"),
+            (refusal(b"", overlap), "2: the image is defective: it has a wrong start"),
+            (refusal(EXAMPLE[:-1], b""), "2: the image is defective: record 0 is cut short, has an unknown tag or is one too many"),
+        ]
+        for refused, words in cases:
+            self.assertEqual(str(refused), f"reason {words}")
+            copy = pickle.loads(pickle.dumps(refused))
+            self.assertEqual((str(copy), copy.args), (str(refused), refused.args))
+        self.assertEqual(changes.change_at(45), (2, "remove entity 'ENT-3'"))
+
+    def test_numbers_of_a_refusal(self):
+        refused = FoldRefused(12, 0, 7, 3, 0, "words")
+        self.assertEqual((refused.reason, refused.count, refused.defect, refused.place, refused.offset), (12, 0, 7, 3, 0))
+
+    def test_what_the_fold_judges(self):
+        """Spelled as it is given, and refused by the fold."""
+        turned = IPv4Address("10.0.0.2"), IPv4Address("10.0.0.1")
+        malformed = [
+            Changes().add_network(turned, "H", "N"), Changes().remove_network(turned), Changes().add_as_block(2, 1, "H", "N"),
+            Changes().remove_as_block(2, 1), Changes().add_domain("EXAM.org", "H"), Changes().remove_domain("EXAM.com"),
+            Changes().add_domain("exam.org.", "H"), Changes().add_nameserver("-", "H"), Changes().add_entity("", "N"),
+            Changes().add_entity("a b", "N"), Changes().add_entity("H", "x" * 65), Changes().add_entity(b"\xe9", "N"),
+            Changes().remove_entity("*"), Changes().remove_entity("ent-1" + "x" * 65000),
+        ]
+        for changes in malformed:
+            self.assertEqual(refusal(CAMPUS, changes).args[:5], (11, 0, 0, 0, 0), changes.change_at(0))
+
+    def test_unspellable(self):
+        four, six = IPv4Address(1), IPv6Address(1)
+        changes, largest = Changes(), 2 ** 32 - 1
+        wrong = [
+            (TypeError, changes.add_network, (four, six), "H", "N"), (TypeError, changes.remove_network, four),
+            (TypeError, changes.remove_network, (1, 2)), (TypeError, changes.remove_network, (four, IPv4Interface("0.0.0.1/8"))),
+            (ValueError, changes.remove_network, (IPv6Address("::1%eth0"), six)),
+            (ValueError, changes.remove_network, IPv6Network("fe80::%eth0/10")),
+            (ValueError, changes.add_as_block, 0, largest + 1, "H", "N"), (ValueError, changes.remove_as_block, -1, 1),
+            (TypeError, changes.remove_as_block, 1.0, 2), (TypeError, changes.remove_as_block, "1", "2"),
+            (ValueError, changes.add_entity, "\u00e9", "N"), (ValueError, changes.add_entity, "H", "\u00e9"),
+            (TypeError, changes.add_entity, 12, "N"), (TypeError, changes.remove_domain, None),
+            (ValueError, changes.add_entity, "H", "x" * 65536), (ValueError, changes.add_entity, "H", "x" * 65526),
+            (ValueError, changes.remove_domain, "x" * 65535),
+        ]
+        for error, method, *arguments in wrong:
+            with self.assertRaises(error):
+                method(*arguments)
+        self.assertEqual(bytes(changes), b"")
+        changes.add_as_block(0, largest, "H", "N").add_entity("H", "x" * 65525).remove_domain("x" * 65534)
+        self.assertEqual([changes.change_at(at)[0] for at in (0, 29, 29 + 3 + 65535)], [0, 1, 2])
+        with self.assertRaises(ValueError):
+            changes.change_at(1)
+
+    def test_wrong_arguments(self):
+        for arguments in ((CAMPUS, "31"), (CAMPUS, None), ("", b""), (CAMPUS, Changes)):
+            with self.assertRaises(TypeError):
+                LIBRARY.fold(*arguments)
+        with self.assertRaises(ValueError):
+            LIBRARY.fold(CAMPUS, b"", -1)
 
 
 if __name__ == "__main__":
