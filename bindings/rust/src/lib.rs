@@ -1,8 +1,11 @@
 //! RDAP answers from a registry image, over the archive of include/rdap.h.
 //!
 //! Calls are pure: no state, any input, no panic; a refusal is an error that carries its numbers.
+mod changes;
+
+pub use changes::{Changes, NoChange};
 use std::fmt;
-use std::net::IpAddr;
+use std::net::{IpAddr, Ipv4Addr, Ipv6Addr};
 use std::ops::Range;
 
 /// An image has at most so many records, so a list of so many places is never too short.
@@ -13,6 +16,12 @@ pub const PATHS: usize = 64;
 
 /// The prefixes of a range take at most so many bytes: 254 of IPv6, of 17 bytes each.
 pub const PREFIXES_ROOM: usize = 4318;
+
+/// An image has at most so many bytes, so a buffer of so many is never too short for a fold.
+pub const IMAGE_BYTES: usize = 262_144;
+
+/// A change file has at most so many bytes.
+pub const CHANGES_BYTES: usize = 65_536;
 
 /// The tag of an AS block.
 const AS_BLOCK: u8 = 0x12;
@@ -78,6 +87,23 @@ impl fmt::Display for Prefix {
     }
 }
 
+/// Its first and its last address.
+impl From<Prefix> for (IpAddr, IpAddr) {
+    fn from(prefix: Prefix) -> (IpAddr, IpAddr) {
+        let length = prefix.length.into();
+        match prefix.address {
+            IpAddr::V4(address) => {
+                let (bits, free) = (u32::from(address), u32::MAX.checked_shr(length).unwrap_or(0));
+                (Ipv4Addr::from(bits & !free).into(), Ipv4Addr::from(bits | free).into())
+            }
+            IpAddr::V6(address) => {
+                let (bits, free) = (u128::from(address), u128::MAX.checked_shr(length).unwrap_or(0));
+                (Ipv6Addr::from(bits & !free).into(), Ipv6Addr::from(bits | free).into())
+            }
+        }
+    }
+}
+
 /// Why there are no prefixes: a range is refused with a reason and no status.
 #[derive(Clone, Copy, Debug, PartialEq, Eq)]
 pub enum NoPrefixes {
@@ -101,6 +127,35 @@ impl fmt::Display for NoPrefixes {
 
 impl std::error::Error for NoPrefixes {}
 
+/// A refusal of a fold, which has a reason and no status: 2 if the image is defective, 11 if a change is at fault, 12 if the
+/// final image would be defective, 9 if there is too little room. Under 2 and 12 `defect` and `place` say how; under 11 `offset`
+/// is where in the file the change stands, and 0 if the file is too long; under 9 `count` is the number of bytes needed.
+#[derive(Clone, Copy, Debug, PartialEq, Eq)]
+pub struct FoldRefusal {
+    pub reason: u32,
+    pub count: u32,
+    pub defect: u32,
+    pub place: u32,
+    pub offset: u32,
+}
+
+impl fmt::Display for FoldRefusal {
+    fn fmt(&self, f: &mut fmt::Formatter) -> fmt::Result {
+        let FoldRefusal { reason, count, defect, place, offset } = self;
+        match reason {
+            2 => write!(f, "reason 2: the image is defective: defect {defect}, record {place}"),
+            9 => write!(f, "reason 9: {count} bytes are needed"),
+            12 => write!(f, "reason 12: the final image would be defective: defect {defect}, record {place}"),
+            _ => {
+                write!(f, "reason {reason}: the change at byte {offset} is malformed, removes a record that isn't there ")?;
+                write!(f, "or adds one whose key is already there{}", if *offset == 0 { ", or the file is too long" } else { "" })
+            }
+        }
+    }
+}
+
+impl std::error::Error for FoldRefusal {}
+
 type Ask = unsafe extern "C" fn(*const u8, usize, u32, *mut u32, usize, *mut [u32; 7]);
 type Find = unsafe extern "C" fn(*const u8, usize, u32, *mut [u32; 2]);
 
@@ -115,6 +170,7 @@ extern "C" {
     fn rdap_name(image: *const u8, image_len: usize, record: u32, part: *mut [u32; 2]);
     fn rdap_range(image: *const u8, image_len: usize, record: u32, part: *mut [u32; 2]);
     fn rdap_prefixes(range: *const u8, range_len: usize, out: *mut u8, out_len: usize, reply: *mut [u32; 2]);
+    fn rdap_fold(image: *const u8, image_len: usize, changes: *const u8, changes_len: usize, out: *mut u8, out_len: usize, reply: *mut [u32; 5]);
 }
 
 fn kind(reply: &[u32; 7]) -> Option<Kind> {
@@ -313,4 +369,23 @@ pub fn record_prefixes(image: &[u8], record: u32) -> Result<Vec<Prefix>, NoPrefi
         return Err(NoPrefixes::NoNetwork);
     }
     prefixes_of(&image[range])
+}
+
+/// Folds a change file into an image. The final image goes to the first of the bytes, the rest is unchanged, and all of them on a
+/// refusal. Gives the number of its bytes. Its records may have other numbers.
+pub fn fold_into(image: &[u8], changes: &[u8], out: &mut [u8]) -> Result<usize, FoldRefusal> {
+    let mut reply = [0; 5];
+    // As above; the reply has five places.
+    unsafe { rdap_fold(image.as_ptr(), image.len(), changes.as_ptr(), changes.len(), out.as_mut_ptr(), out.len(), &mut reply) };
+    match reply {
+        [0, count, ..] => Ok(count as usize),
+        [reason, count, defect, place, offset] => Err(FoldRefusal { reason, count, defect, place, offset }),
+    }
+}
+
+/// Folds a change file, bytes or `Changes`, into an image and gives the final image.
+pub fn fold(image: &[u8], changes: impl AsRef<[u8]>) -> Result<Vec<u8>, FoldRefusal> {
+    let mut out = vec![0; IMAGE_BYTES];
+    let count = fold_into(image, changes.as_ref(), &mut out)?;
+    Ok(out[..count].to_vec())
 }

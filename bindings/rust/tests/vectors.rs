@@ -1,4 +1,7 @@
 //! The vectors of tests/vectors and the image of S13.3, through the safe functions.
+mod common;
+
+use common::{column, each_row, folder};
 use limpetvane::*;
 use std::fs;
 use std::net::IpAddr;
@@ -40,10 +43,6 @@ fn line(answer: Result<Answer, Refusal>) -> String {
         }
         Err(r) => format!("{} {} {} {}", r.status, r.reason, number(r.kind), r.count),
     }
-}
-
-fn folder() -> PathBuf {
-    Path::new(env!("CARGO_MANIFEST_DIR")).join("../../tests/vectors")
 }
 
 /// Hands on each file of paths, with its image and its paths.
@@ -179,26 +178,6 @@ fn few_places() {
     assert_eq!((defective.reason, defective.defect, defective.place), (2, 3, 0));
 }
 
-/// The bytes that a column of the rows stands for.
-fn column(text: &str) -> Vec<u8> {
-    match text.strip_prefix('@') {
-        Some(file) => fs::read(folder().join("changes/03").join(file)).unwrap(),
-        None if text == "-" => vec![],
-        None => (0..text.len()).step_by(2).map(|at| u8::from_str_radix(&text[at..at + 2], 16).unwrap()).collect(),
-    }
-}
-
-/// Hands on the calls of a function on ranges: its columns and the two numbers of its reply. Gives how many there are.
-fn each_row(function: &str, check: impl Fn(&[&str], [usize; 2])) -> usize {
-    let rows = fs::read_to_string(folder().join("changes/03/rows.tsv")).unwrap();
-    let rows: Vec<Vec<&str>> = rows.lines().map(|row| row.split('\t').collect()).filter(|row: &Vec<&str>| row[0] == function).collect();
-    for row in &rows {
-        let (first, second) = row[4].split_once(' ').unwrap();
-        check(row, [first, second].map(|number| number.parse().unwrap()));
-    }
-    rows.len()
-}
-
 fn ip(text: &str) -> IpAddr {
     text.parse().unwrap()
 }
@@ -210,16 +189,16 @@ fn texts(prefixes: Result<Vec<Prefix>, NoPrefixes>) -> Result<Vec<String>, NoPre
 
 #[test]
 fn ranges() {
-    let seen = each_row("rdap_prefixes", |row, [reason, count]| {
+    let seen = each_row("03", "rdap_prefixes", |row, reply| {
         let mut out = vec![7; row[3].parse().unwrap()];
-        let mut wanted = column(row[5]);
+        let mut wanted = column("03", row[5]);
         wanted.extend(&out[wanted.len()..]);
-        let result = match reason {
-            0 => Ok(count),
-            9 => Err(NoPrefixes::Room(count)),
+        let result = match reply[0] {
+            0 => Ok(reply[1] as usize),
+            9 => Err(NoPrefixes::Room(reply[1] as usize)),
             _ => Err(NoPrefixes::NoRange),
         };
-        assert_eq!(prefixes_into(&column(row[1]), &mut out), result, "{}", row[8]);
+        assert_eq!(prefixes_into(&column("03", row[1]), &mut out), result, "{}", row[8]);
         assert_eq!(out, wanted, "{}", row[8]);
     });
     assert_eq!(seen, 512);
@@ -227,8 +206,9 @@ fn ranges() {
 
 #[test]
 fn ranges_of_records() {
-    let seen = each_row("rdap_range", |row, [offset, length]| {
-        let (image, record) = (column(row[1]), row[2].parse().unwrap());
+    let seen = each_row("03", "rdap_range", |row, reply| {
+        let (image, record) = (column("03", row[1]), row[2].parse().unwrap());
+        let (offset, length) = (reply[0] as usize, reply[1] as usize);
         assert_eq!(range(&image, record), &image[offset..][..length]);
         let network = length != 0 && image[offset - 6] != 0x12;
         assert_eq!(record_prefixes(&image, record).err(), (!network).then_some(NoPrefixes::NoNetwork));
