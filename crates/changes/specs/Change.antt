@@ -1,4 +1,4 @@
--- A change file: a row of fields, each a change, applied in order to the records of an image (document 02, No. 5).
+-- A change file (S4.8): a row of fields, each a change, applied in order to the records of an image (S2.8).
 use mathlib.Core.Path.{_≡_}
 use mathlib.Core.Logic.{_↔_}
 use mathlib.Core.Bool.{Bool, true, false, not, cond, _&&_}

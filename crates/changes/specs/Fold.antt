@@ -1,4 +1,4 @@
--- A change file folded into an image (document 02, No. 5).
+-- A change file folded into an image (S2.8), and what is shown of it (S14.8).
 use mathlib.Core.Bool.{true, cond}
 use mathlib.Core.Path.{_≡_}
 use mathlib.Core.List.{List, [], _∷_, _++_}

@@ -1,4 +1,4 @@
--- Where a key stands among sorted records: what a search by halves finds. proofs/Ranks.antt shows that a change is made at this place.
+-- Serves contracts and proofs. Where a key stands among records in order: what a search by halves finds. A change is made at this place (proofs/Ranks.antt).
 use mathlib.Core.Bool.{Bool, false, cond}
 use mathlib.Core.List.{List, [], _∷_}
 use Prim.Native.Nat.{ℕ, suc}

@@ -9,7 +9,7 @@ use lib.ListN.{length, getD}
 use Rattle.address.specs.Ranges.{Range}
 use Rattle.address.specs.Positions.{numberIn}
 use Rattle.records.specs.Record.{Record, widthOf, firstOf, lastOf}
-use Rattle.image.proofs.Laminar.{openAt, sticksOut}
+use Rattle.image.specs.Open.{openAt, sticksOut}
 use Rattle.merged.specs.Held.{bytesAt, parsedFrom, Recorded}
 use Rattle.fold.specs.Overlaps.{openIn, NestedIn}
 use Rattle.fold.specs.declared.Nesting.the-variants.{Under, Crossing}

@@ -17,7 +17,8 @@ use Rattle.records.proofs.Shapes.{a-block, no-block}
 use Rattle.records.proofs.Accepted.{After, follows-after}
 use Rattle.image.specs.Image.{defective, afterJudged, afterNext, imageFrom}
 use Rattle.image.proofs.Addresses.{low-family}
-use Rattle.image.proofs.Laminar.{Chain, openAt, sticksOut, open-chain, open-same, open-test, open-above, other-tag, no-crossing}
+use Rattle.image.specs.Open.{openAt, sticksOut}
+use Rattle.image.proofs.Laminar.{Chain, open-chain, open-same, open-test, open-above, other-tag, no-crossing}
 use Rattle.rows.specs.Entry.{Entry, parsedOf, rowOf}
 use Rattle.rows.specs.Ordered.{AllAfter, after-cons, Ordered, ordered-cons}
 use Rattle.records.proofs.Judging.{judged-after}

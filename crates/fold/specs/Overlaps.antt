@@ -7,7 +7,7 @@ use Prim.Native.Nat.{ℕ, zero, suc, _-_, _≤_, _<_}
 use lib.ListN.{length, getD, drop}
 use Rattle.records.specs.Record.{Record, firstOf, lastOf}
 use Rattle.image.specs.Image.{defective, imageFrom}
-use Rattle.image.proofs.Laminar.{openAt, sticksOut}
+use Rattle.image.specs.Open.{openAt, sticksOut}
 use Rattle.rows.specs.Entry.{Entry, rowOf}
 use Rattle.merged.specs.Held.{bytesAt, parsedFrom, Recorded}
 use Rattle.fold.specs.declared.Nesting.{Nesting}

@@ -10,6 +10,7 @@ use lib.Dec.{leb}
 use Rattle.records.specs.Record.{Record, firstOf, lastOf, isBlock}
 use Rattle.records.specs.Judge.{crossesAny}
 use Rattle.records.proofs.Crossing.{crosses-ended, crosses-around, crosses-other, crosses-no-block, crosses-out}
+use Rattle.image.specs.Open.{openAt, stillOpen, sticksOut}
 
 -- all end at l or after it
 abbrev pub Above : ℕ → List Record → Type 0
@@ -24,21 +25,6 @@ Chain tag bound (e ∷ es) = (e .tag ≡ tag) × (firstOf e ≤ bound) × Above 
 above-less : (l m : ℕ) (es : List Record) → l ≤ m → Above m es → Above l es
 above-less l m [] h a = tt
 above-less l m (e ∷ es) h a = (le-trans h (a .0), above-less l m es h (a .1))
-
--- those that are still open at `first`
-abbrev pub openAt : ℕ → List Record → List Record
-openAt first [] = []
-openAt first (e ∷ es) = cond (leb first (lastOf e)) (e ∷ es) (openAt first es)
-
--- the same of their last addresses
-abbrev pub stillOpen : ℕ → List ℕ → List ℕ
-stillOpen first [] = []
-stillOpen first (l ∷ ls) = cond (leb first l) (l ∷ ls) (stillOpen first ls)
-
--- whether the innermost ends before `last`
-abbrev pub sticksOut : ℕ → List ℕ → Bool
-sticksOut last [] = false
-sticksOut last (l ∷ ls) = not (leb last l)
 
 pub open-lasts : (first : ℕ) (es : List Record) → map lastOf (openAt first es) ≡ stillOpen first (map lastOf es)
 open-lasts first [] = refl

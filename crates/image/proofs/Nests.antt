@@ -9,7 +9,7 @@ use Rattle.address.specs.Positions.{rangeIn}
 use Rattle.image.specs.Place.{openLast, nestOf}
 use Rattle.image.specs.declared.Place.{Place}
 use Rattle.image.specs.declared.Place.the-variants.{Under, Bad}
-use Rattle.image.proofs.Laminar.{stillOpen, sticksOut}
+use Rattle.image.specs.Open.{stillOpen, sticksOut}
 
 -- the search goes down from the innermost
 module _ (s : List ℕ) (w start : ℕ) (stack : List ℕ) (depth d : ℕ) (m : nestOf s w start stack d ≡ nestOf s w start stack depth) where

@@ -22,7 +22,8 @@ use Rattle.image.specs.Place.{Opened, nestOf}
 use Rattle.image.specs.declared.Place.{Place}
 use Rattle.image.specs.declared.Place.the-variants.{Under, Bad}
 use Rattle.image.proofs.Addresses.{low-family}
-use Rattle.image.proofs.Laminar.{Chain, openAt, stillOpen, sticksOut, open-lasts, open-chain, open-same, open-test, open-above, other-tag, no-crossing}
+use Rattle.image.specs.Open.{openAt, stillOpen, sticksOut}
+use Rattle.image.proofs.Laminar.{Chain, open-lasts, open-chain, open-same, open-test, open-above, other-tag, no-crossing}
 use Rattle.image.proofs.Placing.{ranged, range-on}
 use Rattle.image.proofs.Nests.{openLasts, NestedIn, nested}
 

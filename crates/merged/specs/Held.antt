@@ -1,4 +1,4 @@
--- The records that an index of places holds: each place is a position of the image, or 262,144 and a position of the change file.
+-- Serves contracts and proofs. The records that an index of places holds: each place is a position of the image, or 262,144 and a position of the change file.
 use mathlib.Core.Path.{_≡_}
 use mathlib.Core.Bool.{cond}
 use mathlib.Core.List.{List, [], map}

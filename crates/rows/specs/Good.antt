@@ -1,4 +1,4 @@
--- What is known of every entry, wherever it came from: its bytes are one whole field, and it has no defect 3, 4 or 5.
+-- Serves contracts and proofs. What is known of every entry, of the image and of a change file: its bytes are one whole field, and it has no defect 3, 4 or 5.
 use mathlib.Core.Path.{_≡_}
 use mathlib.Core.List.{List, [], _∷_}
 use Prim.Native.Nat.{ℕ}

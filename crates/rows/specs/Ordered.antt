@@ -1,4 +1,4 @@
--- Records in the order of the image: each follows all before it.
+-- Serves contracts and proofs. Records in the order of an image: each follows all before it.
 use mathlib.Core.Path.{_≡_}
 use mathlib.Core.Bool.{true}
 use mathlib.Core.List.{List, [], _∷_}

@@ -11,7 +11,7 @@ use lib.Dec.{leb}
 use Rattle.address.specs.Positions.{Wide, numberIn}
 use Rattle.records.specs.Record.{widthOf, firstOf, lastOf}
 use Rattle.image.proofs.Addresses.{wide-family}
-use Rattle.image.proofs.Laminar.{openAt}
+use Rattle.image.specs.Open.{openAt}
 use Rattle.merged.specs.Held.{bytesAt, parsedFrom, Recorded}
 use Rattle.fold.specs.Overlaps.{openIn}
 use Rattle.merged.proofs.Known.{known}
