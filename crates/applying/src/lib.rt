@@ -59,7 +59,7 @@ fn good_key(tag: u8, key: &[u8]) -> bool
         return numbers_at_most(key, 0, key, width, width);
     }
     if tag == 0x15 {
-        return name::handle_ok(key);
+        return name::text_ok(key, 0x21);
     }
     name::host_ok(key)
 }

@@ -15,11 +15,11 @@ not-done offset es e = let z : _≡_ {A = ℕ} 0 1 = cc in omega arith
 
 pub later-zero : (c : Changed) → later 0 c ≡ c
 later-zero (done es) = refl
-later-zero (refusedAt offset) = let e : 0 + offset ≡ offset = omega arith in rw e
+later-zero (refusedAt offset) = let e : 0 + offset ≡ offset = omega arith in ap refusedAt e
 
 pub later-later : (m n : ℕ) (c : Changed) → later m (later n c) ≡ later (m + n) c
 later-later m n (done es) = refl
-later-later m n (refusedAt offset) = let e : m + (n + offset) ≡ m + n + offset = omega arith in rw e
+later-later m n (refusedAt offset) = let e : m + (n + offset) ≡ m + n + offset = omega arith in ap refusedAt e
 
 pub later-done : (n : ℕ) (c : Changed) (es : List Entry) → later n c ≡ done es → c ≡ done es
 later-done n (done fs) es e = e

@@ -25,7 +25,9 @@ module _ (image : List ℕ) (records : List Record) (e : imageOf image ≡ sound
 
   within-limit : (changes : List ℕ) (room : ℕ) → length changes ≤ 65536 → foldOf image changes room ≡ afterChanges (take 4 image) room (changesOf before changes)
   unfolding foldOf
-  within-limit changes room h = rw (e, le-leb (length changes) 65536 h)
+  within-limit changes room h =
+      ap (afterImage image changes room) e
+      ∙ ap (λ (t : Bool). cond t (afterChanges (take 4 image) room (changesOf before changes)) (badChange 0)) (le-leb (length changes) 65536 h)
 
   pub changed-good : (changes : List ℕ) (after : List Entry) → changesOf before changes ≡ done after → AllGood after
   unfolding changesOf

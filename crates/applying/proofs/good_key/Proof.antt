@@ -28,11 +28,11 @@ returns-2 c =
     let e = c .before .before .width-of .ensures .0 in
     key-range _ _ (a .pre .0) (c .before .before .before .if1 .taken) (rw e at (c .before .if2 .left)) _ (rw e at (c .numbers-at-most .ensures))
 
-handle-ok-requires : tie.Need-handle-ok-requires
-handle-ok-requires c κs = search needs
+text-ok-requires : tie.Need-text-ok-requires
+text-ok-requires c κs = search needs
 
 returns-3 : tie.Need-returns-3
-returns-3 c = key-handle _ _ (c .before .before .if1 .left) (c .before .if3 .taken) _ (c .handle-ok .ensures)
+returns-3 c = key-handle _ _ (c .before .before .if1 .left) (c .before .if3 .taken) _ (c .text-ok .ensures)
 
 host-ok-requires : tie.Need-host-ok-requires
 host-ok-requires c κs = search needs
@@ -49,7 +49,7 @@ good-key-spec =
     returns
     numbers-at-most-requires
     returns-2
-    handle-ok-requires
+    text-ok-requires
     returns-3
     host-ok-requires
     returns-4)
