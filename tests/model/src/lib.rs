@@ -3,7 +3,7 @@
 //! document's own sentences.
 //!
 //! `fast` is a second implementation for measuring against, `generate` makes
-//! images, paths and ranges to compare implementations on.
+//! images, paths, ranges and change files to compare implementations on.
 
 pub mod fast;
 pub mod generate;
@@ -18,6 +18,8 @@ pub const LONGEST_IMAGE: usize = 262_144;
 pub const MOST_RECORDS: usize = 4096;
 /// "IPv4 never needs more than 62 prefixes [...], IPv6 never more than 254"
 pub const MOST_PREFIXES: usize = 254;
+/// "A change file is a row of fields, too, at most 65,536 bytes of them."
+pub const LONGEST_CHANGES: usize = 65_536;
 /// "It starts with the bytes 01 00 01 01 (edition 1)."
 pub const START: [u8; 4] = [0x01, 0x00, 0x01, 0x01];
 
@@ -27,6 +29,11 @@ pub const AS: u8 = 0x12;
 pub const DOMAIN: u8 = 0x13;
 pub const NAMESERVER: u8 = 0x14;
 pub const ENTITY: u8 = 0x15;
+
+/// "30 holds a whole record to add. 31 holds a record tag's byte, then the bare
+/// key of the record to remove"
+pub const ADD: u8 = 0x30;
+pub const REMOVE: u8 = 0x31;
 
 /// First and last, both included, of an address or number of any family.
 #[derive(Clone, Copy, Debug, PartialEq, Eq)]
@@ -79,6 +86,19 @@ pub struct Record {
     pub ends: Part,
     pub handle: Part,
     pub name: Part,
+}
+
+impl Record {
+    /// "its range (10, 11, 12), its name (13, 14) or its handle (15), which is what
+    /// the records of that tag are sorted by"
+    fn key<'a>(&self, image: &'a [u8]) -> &'a [u8] {
+        match self.tag {
+            IPV4 | IPV6 | AS => self.ends,
+            DOMAIN | NAMESERVER => self.name,
+            _ => self.handle,
+        }
+        .of(image)
+    }
 }
 
 #[derive(Clone, Copy, Debug, PartialEq, Eq)]
@@ -170,6 +190,49 @@ impl Prefixed {
     }
 }
 
+/// What the fold returns beside the final image: "it gives a reason without a
+/// status, and count, defect, place and offset, which are 0 where nothing else is
+/// said".
+#[derive(Clone, Copy, Debug, Default, PartialEq, Eq)]
+pub struct Folded {
+    pub reason: u32,
+    pub count: u32,
+    pub defect: u32,
+    pub place: u32,
+    pub offset: u32,
+}
+
+impl Folded {
+    pub fn numbers(self) -> [u32; 5] {
+        [
+            self.reason,
+            self.count,
+            self.defect,
+            self.place,
+            self.offset,
+        ]
+    }
+
+    /// Reason 2, or 12 of the final image.
+    pub fn defective(reason: u32, found: Defect) -> Folded {
+        Folded {
+            reason,
+            defect: found.defect,
+            place: found.place,
+            ..Folded::default()
+        }
+    }
+
+    /// Reason 11.
+    pub fn refused(offset: usize) -> Folded {
+        Folded {
+            reason: 11,
+            offset: offset as u32,
+            ..Folded::default()
+        }
+    }
+}
+
 /// The status table's first two columns.
 pub fn status(reason: u32) -> u32 {
     match reason {
@@ -248,13 +311,40 @@ pub fn prefixes(range: &[u8], out: &mut [u8]) -> Prefixed {
     }
     // "9, with the number of prefixes needed as count, if the buffer has fewer
     // bytes than the entries"
-    let fits = entries.len() <= out.len();
-    if fits {
-        out[..entries.len()].copy_from_slice(&entries);
-    }
     Prefixed {
-        reason: if fits { 0 } else { 9 },
+        reason: put(&entries, out),
         count: listed.len() as u32,
+    }
+}
+
+/// Reason 0 with the bytes "at the front of the buffer, and the rest is
+/// unchanged", or 9 "if the buffer has fewer bytes".
+fn put(bytes: &[u8], out: &mut [u8]) -> u32 {
+    match out.get_mut(..bytes.len()) {
+        Some(front) => {
+            front.copy_from_slice(bytes);
+            0
+        }
+        None => 9,
+    }
+}
+
+/// "The fold applies a change file to an image."
+pub fn fold(image: &[u8], changes: &[u8], out: &mut [u8]) -> Folded {
+    put_final(&final_image(image, &check(image), changes), out)
+}
+
+/// "9, with the number of bytes needed as count, if the buffer has fewer bytes
+/// than the final image; else 0, with the number of bytes as count."
+pub fn put_final(made: &Result<Vec<u8>, Folded>, out: &mut [u8]) -> Folded {
+    match made {
+        Ok(bytes) => Folded {
+            reason: put(bytes, out),
+            count: bytes.len() as u32,
+            ..Folded::default()
+        },
+        // "Under every reason but 0 the whole buffer is unchanged."
+        Err(refused) => *refused,
     }
 }
 
@@ -339,6 +429,34 @@ pub fn relation_checked(
         _ => None,
     };
     report(8, relation as u32, found, list)
+}
+
+/// The final image of a fold, or why there is none: reasons 2, 11 and 12.
+pub fn final_image(image: &[u8], checked: &Checked, changes: &[u8]) -> Result<Vec<u8>, Folded> {
+    // "2, with defect and place, if the image is defective"
+    if let Err(found) = checked {
+        return Err(Folded::defective(2, *found));
+    }
+    // "11 [...]; but with offset 0 if the file has more than 65,536 bytes"
+    if changes.len() > LONGEST_CHANGES {
+        return Err(Folded::refused(0));
+    }
+    let mut kept = all_kept(image);
+    // "The changes apply in order, each to what the changes before it made"
+    let mut at = 0;
+    while at < changes.len() {
+        // "11, with the offset of its tag byte in the file, at the first change
+        // that is malformed, removes a record that isn't there or adds one whose
+        // key is already there"
+        at = apply(changes, at, &mut kept).ok_or(Folded::refused(at))?;
+    }
+    let mut bytes = START.to_vec();
+    bytes.extend(kept.into_iter().flat_map(|record| record.bytes));
+    // "12, with defect and place, if the final image would be defective"
+    match check(&bytes) {
+        Ok(_) => Ok(bytes),
+        Err(found) => Err(Folded::defective(12, found)),
+    }
 }
 
 /// Offset and length of the handle, 0 and 0 if there is none.
@@ -524,9 +642,8 @@ fn read_record(image: &[u8], at: usize, before: &[Record]) -> Result<(Record, us
     // "6 tag lower than its predecessor's, or the same tag and not strictly
     // after it in the sorting"
     if let Some(predecessor) = before.last() {
-        if tag < predecessor.tag
-            || (tag == predecessor.tag && !strictly_after(image, &record, predecessor))
-        {
+        let (key, earlier) = (record.key(image), predecessor.key(image));
+        if tag < predecessor.tag || (tag == predecessor.tag && !strictly_after(tag, key, earlier)) {
             return Err(6);
         }
     }
@@ -557,18 +674,15 @@ fn number_of(bytes: &[u8]) -> u128 {
         .fold(0, |number, &byte| number * 256 + u128::from(byte))
 }
 
-/// The column "Sorted by". "Names and handles sort by bytes, a proper prefix
-/// first", as slices of bytes do.
-fn strictly_after(image: &[u8], record: &Record, predecessor: &Record) -> bool {
-    match (record.range, predecessor.range) {
-        // "first ascending, then last descending"
-        (Some(range), Some(earlier)) => {
-            range.first > earlier.first
-                || (range.first == earlier.first && range.last < earlier.last)
-        }
-        _ if record.tag == ENTITY => record.handle.of(image) > predecessor.handle.of(image),
-        _ => record.name.of(image) > predecessor.name.of(image),
+/// The column "Sorted by", of two keys of a tag. "Names and handles sort by bytes,
+/// a proper prefix first", as slices of bytes do.
+fn strictly_after(tag: u8, key: &[u8], earlier: &[u8]) -> bool {
+    if tag > AS {
+        return key > earlier;
     }
+    // "first ascending, then last descending"
+    let (range, earlier) = (range_of(key), range_of(earlier));
+    range.first > earlier.first || (range.first == earlier.first && range.last < earlier.last)
 }
 
 /// "21 is a handle: 1 to 64 bytes, 21 to 7E hex, no asterisk."
@@ -608,6 +722,102 @@ fn is_host_name(text: &[u8]) -> bool {
 
 fn is_lower_host_name(text: &[u8]) -> bool {
     is_host_name(text) && !text.iter().any(u8::is_ascii_uppercase)
+}
+
+// Change files
+
+/// A record while changes are applied: its tag, its key and all its bytes.
+struct Kept {
+    tag: u8,
+    key: Vec<u8>,
+    bytes: Vec<u8>,
+}
+
+impl Kept {
+    fn has_key(&self, tag: u8, key: &[u8]) -> bool {
+        self.tag == tag && self.key == key
+    }
+
+    /// "Records sort by tag ascending, and within a tag as the table says"
+    fn comes_after(&self, other: &Kept) -> bool {
+        self.tag > other.tag
+            || (self.tag == other.tag && strictly_after(self.tag, &self.key, &other.key))
+    }
+}
+
+/// The record at `at`, judged by itself, and where it ends; None if it has defect
+/// 3, 4 or 5.
+fn read_kept(bytes: &[u8], at: usize) -> Option<(Kept, usize)> {
+    let (record, end) = read_record(bytes, at, &[]).ok()?;
+    let kept = Kept {
+        tag: record.tag,
+        key: record.key(bytes).to_vec(),
+        bytes: bytes[at..end].to_vec(),
+    };
+    Some((kept, end))
+}
+
+/// The records of a sound image.
+fn all_kept(image: &[u8]) -> Vec<Kept> {
+    let mut all = Vec::new();
+    let mut at = START.len();
+    while let Some((record, end)) = read_kept(image, at) {
+        all.push(record);
+        at = end;
+    }
+    all
+}
+
+/// Applies the change at `at` and gives where it ends; None under reason 11.
+fn apply(changes: &[u8], at: usize, kept: &mut Vec<Kept>) -> Option<usize> {
+    // "A change is malformed if it is cut short or has another tag"
+    let change = read_field(changes, at, changes.len())?;
+    let contents = change.part.of(changes);
+    match change.tag {
+        ADD => add(contents, kept)?,
+        REMOVE => remove(contents, kept)?,
+        _ => return None,
+    }
+    Some(change.end)
+}
+
+fn add(contents: &[u8], kept: &mut Vec<Kept>) -> Option<()> {
+    // "if what 30 holds is no whole record, a record with defect 3, 4 or 5 or has
+    // bytes after the record"
+    let (new, end) = read_kept(contents, 0)?;
+    // "adds one whose key is already there"
+    if end != contents.len() || kept.iter().any(|record| record.has_key(new.tag, &new.key)) {
+        return None;
+    }
+    // "a record to add takes its place in the sorting"
+    let after = kept.iter().position(|record| record.comes_after(&new));
+    kept.insert(after.unwrap_or(kept.len()), new);
+    Some(())
+}
+
+fn remove(contents: &[u8], kept: &mut Vec<Kept>) -> Option<()> {
+    // "if what 31 holds has no record tag first or then no key of that tag's form"
+    let (&tag, key) = contents.split_first()?;
+    if !is_key(tag, key) {
+        return None;
+    }
+    // "removes a record that isn't there"
+    let place = kept.iter().position(|record| record.has_key(tag, key))?;
+    kept.remove(place);
+    Some(())
+}
+
+/// "as many bytes as field 20 has, first not above last; a host name in lower
+/// case; a handle"
+fn is_key(tag: u8, key: &[u8]) -> bool {
+    let is_range = |length| key.len() == length && range_of(key).first <= range_of(key).last;
+    match tag {
+        IPV4 | AS => is_range(8),
+        IPV6 => is_range(32),
+        DOMAIN | NAMESERVER => is_lower_host_name(key),
+        ENTITY => is_handle(key),
+        _ => false,
+    }
 }
 
 // Paths
