@@ -70,6 +70,15 @@ mod calls {
             out_len: usize,
             reply: *mut u32,
         );
+        fn rdap_fold(
+            image: *const u8,
+            image_len: usize,
+            changes: *const u8,
+            changes_len: usize,
+            out: *mut u8,
+            out_len: usize,
+            reply: *mut u32,
+        );
     }
 
     /// A function that takes a text, an image and a list.
@@ -155,6 +164,21 @@ mod calls {
             )
         }
     }
+
+    #[inline]
+    pub fn fold(image: &[u8], changes: &[u8], out: &mut [u8], reply: &mut [u32; 5]) {
+        unsafe {
+            rdap_fold(
+                image.as_ptr(),
+                image.len(),
+                changes.as_ptr(),
+                changes.len(),
+                out.as_mut_ptr(),
+                out.len(),
+                reply.as_mut_ptr(),
+            )
+        }
+    }
 }
 
 #[cfg(not(feature = "ffi"))]
@@ -204,6 +228,11 @@ mod calls {
     pub fn prefixes(range: &[u8], out: &mut [u8], reply: &mut [u32; 2]) {
         *reply = fast::prefixes(range, out).numbers();
     }
+
+    #[inline]
+    pub fn fold(image: &[u8], changes: &[u8], out: &mut [u8], reply: &mut [u32; 5]) {
+        *reply = fast::fold(image, changes, out).numbers();
+    }
 }
 
-pub use calls::{answer, batch, handle, name, prefixes, range, relation, NAME};
+pub use calls::{answer, batch, fold, handle, name, prefixes, range, relation, NAME};
