@@ -1,13 +1,13 @@
-//! Images, paths, batches of paths and ranges to compare implementations on, made
-//! from a seed.
+//! Images, paths, batches of paths, ranges and change files to compare
+//! implementations on, made from a seed.
 //!
 //! Sound images have many shapes; damaged ones start from a sound one. Paths
 //! aim at what the image holds, so that most of them reach the records, and a
-//! part of them is then spoilt.
+//! part of them is then spoilt. So do change files.
 
 use crate::{
-    Checked, Range, AS, DOMAIN, ENTITY, IPV4, IPV6, LONGEST_IMAGE, LONGEST_PATH, MOST_PATHS,
-    MOST_PREFIXES, MOST_RECORDS, NAMESERVER, RELATIONS, START,
+    Checked, Range, ADD, AS, DOMAIN, ENTITY, IPV4, IPV6, LONGEST_CHANGES, LONGEST_IMAGE,
+    LONGEST_PATH, MOST_PATHS, MOST_PREFIXES, MOST_RECORDS, NAMESERVER, RELATIONS, REMOVE, START,
 };
 use crate::{Record, Relation};
 
@@ -127,18 +127,36 @@ impl Draft {
         contents[half..].copy_from_slice(&last.to_be_bytes()[16 - half..]);
     }
 
+    /// What its tag is sorted by, in a record that has all its fields.
+    fn key(&self) -> &[u8] {
+        let by_name = self.tag == DOMAIN || self.tag == NAMESERVER;
+        &self.fields[usize::from(by_name)].1
+    }
+
     pub fn encode(&self) -> Vec<u8> {
         let mut contents = Vec::new();
         for (tag, inner) in &self.fields {
-            contents.push(*tag);
-            contents.extend((inner.len() as u16).to_be_bytes());
-            contents.extend(inner);
+            contents.extend(field(*tag, inner));
         }
-        let mut record = vec![self.tag];
-        record.extend((contents.len() as u16).to_be_bytes());
-        record.extend(contents);
-        record
+        field(self.tag, &contents)
     }
+
+    /// The change that adds it.
+    pub fn addition(&self) -> Vec<u8> {
+        field(ADD, &self.encode())
+    }
+
+    /// The change that removes it.
+    pub fn removal(&self) -> Vec<u8> {
+        field(REMOVE, &[&[self.tag], self.key()].concat())
+    }
+}
+
+fn field(tag: u8, contents: &[u8]) -> Vec<u8> {
+    let mut field = vec![tag];
+    field.extend((contents.len() as u16).to_be_bytes());
+    field.extend(contents);
+    field
 }
 
 /// The contents of field 20 in a record of this tag.
@@ -455,7 +473,6 @@ fn blocks(rng: &mut Rng, tag: u8, count: usize, style: Style) -> Vec<Draft> {
 }
 
 fn others(rng: &mut Rng, tag: u8, count: usize, style: Style) -> Vec<Draft> {
-    let sorted = usize::from(tag != ENTITY);
     let mut drafts: Vec<Draft> = (0..count)
         .map(|_| {
             let handle = text(rng, style, 0x21);
@@ -467,8 +484,8 @@ fn others(rng: &mut Rng, tag: u8, count: usize, style: Style) -> Vec<Draft> {
             Draft::other(tag, &handle, &name)
         })
         .collect();
-    drafts.sort_by(|left, right| left.fields[sorted].1.cmp(&right.fields[sorted].1));
-    drafts.dedup_by(|left, right| left.fields[sorted].1 == right.fields[sorted].1);
+    drafts.sort_by(|left, right| left.key().cmp(right.key()));
+    drafts.dedup_by(|left, right| left.key() == right.key());
     drafts
 }
 
@@ -506,7 +523,7 @@ pub fn sound(rng: &mut Rng) -> Vec<u8> {
 
 /// A record that sorts after those of this kind made with a lower number, of
 /// `length` bytes, 23 to 275.
-fn numbered(number: usize, length: usize) -> Vec<u8> {
+fn numbered(number: usize, length: usize) -> Draft {
     let mut name = format!("{number:05}").into_bytes();
     while name.len() + 10 < length {
         name.push(if name.len() % 60 == 0 { b'.' } else { b'x' });
@@ -515,7 +532,31 @@ fn numbered(number: usize, length: usize) -> Vec<u8> {
         name.pop();
         name.push(b'x');
     }
-    Draft::other(NAMESERVER, b"h", &name).encode()
+    Draft::other(NAMESERVER, b"h", &name)
+}
+
+/// So many small ones of these, numbered from `start`.
+fn many(rng: &mut Rng, start: usize, count: usize) -> Vec<Draft> {
+    let numbers = start..start + count;
+    numbers
+        .map(|number| numbered(number, rng.between(23, 30)))
+        .collect()
+}
+
+/// Large ones that have `length` bytes together, with `more` bytes for each.
+fn filling(rng: &mut Rng, start: usize, length: usize, more: usize) -> Vec<Draft> {
+    let mut drafts = Vec::new();
+    let mut left = length;
+    while left > 0 {
+        let next = match left {
+            401.. => rng.between(230, 263),
+            264..=400 => left / 2,
+            _ => left,
+        };
+        drafts.push(numbered(start + drafts.len(), next - more));
+        left -= next;
+    }
+    drafts
 }
 
 /// How many images `limit` makes.
@@ -525,7 +566,6 @@ pub const LIMITS: usize = 13;
 /// to 262,146 bytes, 4,095 or 4,096 records with a byte after them, and 4,096
 /// with one after them that has a defect of its own.
 pub fn limit(rng: &mut Rng, which: usize) -> Vec<u8> {
-    let mut image = START.to_vec();
     match which % LIMITS {
         which @ (0..5 | 10..) => {
             let count = match which {
@@ -533,32 +573,19 @@ pub fn limit(rng: &mut Rng, which: usize) -> Vec<u8> {
                 11.. => MOST_RECORDS,
                 _ => MOST_RECORDS - 2 + which,
             };
-            for number in 0..count {
-                let length = rng.between(23, 30);
-                image.extend(numbered(number, length));
-            }
+            let mut image = encode(&many(rng, 0, count));
             match which {
                 10 | 11 => image.push(NAMESERVER),
-                12 => image.extend(numbered(0, 23)),
+                12 => image.extend(numbered(0, 23).encode()),
                 _ => {}
             }
+            image
         }
         which => {
             let length = LONGEST_IMAGE - 2 + (which - 5);
-            let mut number = 0;
-            while image.len() < length {
-                let left = length - image.len();
-                let next = match left {
-                    401.. => rng.between(230, 263),
-                    264..=400 => left / 2,
-                    _ => left,
-                };
-                image.extend(numbered(number, next));
-                number += 1;
-            }
+            encode(&filling(rng, 0, length - START.len(), 0))
         }
     }
-    image
 }
 
 /// Up to 4,096 blocks of one family, sound.
@@ -928,6 +955,15 @@ pub fn room(rng: &mut Rng, range: &[u8], count: usize) -> usize {
     }
 }
 
+/// A length in bytes for a final image of so many.
+pub fn final_room(rng: &mut Rng, bytes: usize) -> usize {
+    match rng.below(4) {
+        0 => bytes + rng.below(300),
+        1 => rng.below(bytes + 1),
+        _ => places(rng, bytes),
+    }
+}
+
 /// How many places there must be for a batch, whatever its paths ask for.
 pub fn enough_places(text: &[u8], aims: &Aims) -> usize {
     let paths = text.split(|&byte| byte == b'\n').count();
@@ -1020,6 +1056,404 @@ fn draft_range(rng: &mut Rng, aims: &Aims, family: u8) -> Range {
     };
     let (first, last) = (first.min(last), first.max(last).min(most));
     Range { first, last }
+}
+
+// Change files
+
+/// The records of a sound image, none of another.
+pub fn drafts_of(image: &[u8], checked: &Checked) -> Vec<Draft> {
+    let text = |part: crate::Part| &image[part.offset..][..part.length];
+    let draft = |record: &Record| {
+        let (handle, name) = (text(record.handle), text(record.name));
+        match record.range {
+            Some(range) => {
+                let active = image[record.name.offset + name.len() + 3] == 1;
+                Draft::block(record.tag, range, handle, name, active)
+            }
+            None => Draft::other(record.tag, handle, name),
+        }
+    };
+    checked.iter().flatten().map(draft).collect()
+}
+
+/// A change file while it is made.
+struct Changes<'a> {
+    aims: &'a Aims,
+    /// The records that it leaves, and those that it took away.
+    there: Vec<Draft>,
+    removed: Vec<Draft>,
+    file: Vec<u8>,
+    /// Where its changes start.
+    starts: Vec<usize>,
+}
+
+/// A change file for an image with these records, most of the time without a fault.
+pub fn changes(rng: &mut Rng, aims: &Aims, there: &[Draft]) -> Vec<u8> {
+    let mut made = Changes {
+        aims,
+        there: there.to_vec(),
+        removed: Vec::new(),
+        file: Vec::new(),
+        starts: Vec::new(),
+    };
+    let count = match rng.below(40) {
+        0 => 0,
+        1 => rng.between(20, 100),
+        _ => rng.between(1, 8),
+    };
+    let stray = rng.once_in(6).then(|| made.stray(rng)).flatten();
+    for _ in 0..count {
+        made.good(rng);
+    }
+    if let Some(stray) = stray {
+        made.settle(rng, &stray);
+    }
+    if rng.once_in(3) {
+        made.spoil(rng);
+    }
+    made.file
+}
+
+impl Changes<'_> {
+    fn add(&mut self, draft: Draft) {
+        self.starts.push(self.file.len());
+        self.file.extend(draft.addition());
+        self.there.push(draft);
+    }
+
+    fn remove(&mut self, at: usize) {
+        let draft = self.there.swap_remove(at);
+        self.starts.push(self.file.len());
+        self.file.extend(draft.removal());
+        self.removed.push(draft);
+    }
+
+    /// Where a record with this one's key is.
+    fn find(&self, draft: &Draft) -> Option<usize> {
+        let has_key = |other: &Draft| other.tag == draft.tag && other.key() == draft.key();
+        self.there.iter().position(has_key)
+    }
+
+    /// Where a block is that overlaps this one, and none inside the other.
+    fn clash(&self, draft: &Draft) -> Option<usize> {
+        let range = draft.range()?;
+        self.there.iter().position(|other| {
+            other.tag == draft.tag
+                && other.range().is_some_and(|other| {
+                    other.overlaps(range) && !other.covers(range) && !range.covers(other)
+                })
+        })
+    }
+
+    fn fits(&self, draft: &Draft) -> bool {
+        self.find(draft).is_none() && self.clash(draft).is_none()
+    }
+
+    /// Writes a good change, or a few.
+    fn good(&mut self, rng: &mut Rng) {
+        // one of the image, or of the file itself
+        let any = rng.below(self.there.len().max(1));
+        let last = self.there.len().saturating_sub(1);
+        match rng.below(8) {
+            0 if !self.there.is_empty() => self.remove(last),
+            1 | 2 if !self.there.is_empty() => self.remove(any),
+            // away and there again, as it was or changed
+            3 if !self.there.is_empty() => {
+                self.remove(any);
+                self.bring_back(rng);
+            }
+            4 if !self.removed.is_empty() => self.bring_back(rng),
+            _ => {
+                let mut drawn = (0..6).map(|_| new_record(rng, self.aims));
+                if let Some(draft) = drawn.find(|draft| self.fits(draft)) {
+                    self.add(draft);
+                }
+            }
+        }
+    }
+
+    /// Adds what was removed last, if it fits.
+    fn bring_back(&mut self, rng: &mut Rng) {
+        if let Some(mut draft) = self.removed.pop() {
+            if self.fits(&draft) {
+                if rng.once_in(2) {
+                    rename(rng, &mut draft);
+                }
+                self.add(draft);
+            }
+        }
+    }
+
+    /// Adds a block that may overlap one of the image.
+    fn stray(&mut self, rng: &mut Rng) -> Option<Draft> {
+        if self.aims.blocks.is_empty() {
+            return None;
+        }
+        let (tag, block) = *rng.pick(&self.aims.blocks);
+        let last = block.last.saturating_add(rng.between(1, 4) as u128);
+        let range = Range {
+            first: rng.within(block),
+            last: last.min(largest(tag)),
+        };
+        let draft = Draft::block(tag, range, b"stray", b"stray", true);
+        if self.find(&draft).is_some() {
+            return None;
+        }
+        self.add(draft.clone());
+        Some(draft)
+    }
+
+    /// Removes a stray block, or what it overlaps, or nothing.
+    fn settle(&mut self, rng: &mut Rng, stray: &Draft) {
+        match rng.below(3) {
+            0 => {
+                if let Some(at) = self.find(stray) {
+                    self.remove(at);
+                }
+            }
+            1 => {
+                while let Some(at) = self.clash(stray) {
+                    self.remove(at);
+                }
+            }
+            _ => {}
+        }
+    }
+
+    /// Puts a fault in, mostly one that reason 11 is for.
+    fn spoil(&mut self, rng: &mut Rng) {
+        let end = self.file.len();
+        let at = match rng.below(self.starts.len() + 1) {
+            0 => end,
+            number => self.starts[number - 1],
+        };
+        let more = match rng.below(12) {
+            0 | 1 => return self.file.truncate(rng.below(end + 1)),
+            2 if at < end => {
+                self.file[at] = *rng.pick(&[0, 0x10, 0x15, 0x20, 0x2F, 0x32, 0xB0, 0xFF]);
+                return;
+            }
+            3 => return damage_bytes(rng, &mut self.file),
+            4..=6 => bad_addition(rng, self.aims),
+            7 | 8 => bad_removal(rng, self.aims),
+            // what isn't there, and what is
+            9 => new_record(rng, self.aims).removal(),
+            10 if !self.there.is_empty() => {
+                let mut again = rng.pick(&self.there).clone();
+                rename(rng, &mut again);
+                again.addition()
+            }
+            // a change once more
+            _ => {
+                let next = self.starts.iter().find(|&&start| start > at);
+                self.file[at..*next.unwrap_or(&end)].to_vec()
+            }
+        };
+        insert(&mut self.file, at, &more);
+    }
+}
+
+/// Changes what is no key.
+fn rename(rng: &mut Rng, draft: &mut Draft) {
+    let other = match draft.tag {
+        DOMAIN | NAMESERVER => 0,
+        _ => 1,
+    };
+    draft.fields[other].1 = text(rng, Style::Plain, 0x21);
+}
+
+/// A sound record of any tag, often beside one of the image in the sorting.
+fn new_record(rng: &mut Rng, aims: &Aims) -> Draft {
+    let tag = rng.between(usize::from(IPV4), usize::from(ENTITY)) as u8;
+    let style = *rng.pick(&[Style::Few, Style::All, Style::Plain]);
+    let handle = text(rng, style, 0x21);
+    let name = text(rng, style, 0x20);
+    match tag {
+        ENTITY => Draft::other(tag, &new_text(rng, aims, tag), &name),
+        DOMAIN | NAMESERVER => Draft::other(tag, &handle, &new_text(rng, aims, tag)),
+        _ => Draft::block(
+            tag,
+            new_range(rng, aims, tag),
+            &handle,
+            &name,
+            !rng.once_in(3),
+        ),
+    }
+}
+
+/// A key for a record 13, 14 or 15.
+fn new_text(rng: &mut Rng, aims: &Aims, tag: u8) -> Vec<u8> {
+    let (mut key, ends) = match tag {
+        ENTITY => (aims.handle(rng, &[tag]), "! !! ~ ~~ ~~~~~~~~~"),
+        _ => (aims.host(rng, tag), "0 0.0 0-0 z z.z zzzzzzzzz"),
+    };
+    match rng.below(6) {
+        // before or after all others
+        0 => key = rng.word(ends).to_vec(),
+        // a longer one, or a shorter
+        1 => key.extend(rng.word("a 0 .a -a")),
+        2 => {
+            key.pop();
+        }
+        _ => key.clear(),
+    }
+    match tag {
+        _ if crate::is_key(tag, &key) => key,
+        ENTITY => text(rng, Style::All, 0x21),
+        _ => host(rng),
+    }
+}
+
+/// A range for a block, inside one of the image, around it, beside it or anywhere.
+fn new_range(rng: &mut Rng, aims: &Aims, tag: u8) -> Range {
+    let most = largest(tag);
+    let block = aims.block(rng, tag);
+    let few = rng.below(4) as u128;
+    let (first, last) = match rng.below(9) {
+        0 | 1 => (rng.within(block), rng.within(block)),
+        2 => (block.first, rng.within(block)),
+        3 => (rng.within(block), block.last),
+        4 => (block.first.saturating_sub(few), block.last),
+        5 => (block.first, block.last.saturating_add(few)),
+        6 => {
+            let after = block.last.saturating_add(1);
+            (after, after.saturating_add(few))
+        }
+        // at an end of the family, or both
+        7 => (*rng.pick(&[0, 0, most]), *rng.pick(&[0, most, few])),
+        _ => return draft_range(rng, aims, tag),
+    };
+    Range {
+        first: first.min(last).min(most),
+        last: first.max(last).min(most),
+    }
+}
+
+/// A change 30 that mostly holds no whole record, or more than one.
+fn bad_addition(rng: &mut Rng, aims: &Aims) -> Vec<u8> {
+    let mut drafts = vec![new_record(rng, aims)];
+    damage_records(rng, &mut drafts);
+    let mut contents: Vec<u8> = drafts.iter().flat_map(Draft::encode).collect();
+    match rng.below(6) {
+        0 => contents.push(rng.word64() as u8),
+        1 => contents.truncate(rng.below(contents.len() + 1)),
+        2 => damage_bytes(rng, &mut contents),
+        _ => {}
+    }
+    field(ADD, &contents)
+}
+
+/// A change 31 that mostly holds no key.
+fn bad_removal(rng: &mut Rng, aims: &Aims) -> Vec<u8> {
+    let draft = new_record(rng, aims);
+    let mut tag = draft.tag;
+    let mut key = draft.key().to_vec();
+    match rng.below(8) {
+        0 => return field(REMOVE, &[]),
+        1 => tag = rng.between(0x0E, 0x17) as u8,
+        2 => key.resize(*rng.pick(&[0, 4, 7, 9, 31, 33, 64, 65, 253, 254]), b'a'),
+        // first above last
+        3 => key.rotate_left(draft.key().len() / 2),
+        4 => fold_some(rng, &mut key),
+        5 => damage_host(rng, &mut key),
+        6 => spoil_text(rng, &mut key),
+        // a field in place of the bare key
+        _ => key = field(rng.between(0x20, 0x22) as u8, &key),
+    }
+    field(REMOVE, &[&[tag], &key[..]].concat())
+}
+
+/// How many folds `fold_limit` makes.
+pub const FOLD_LIMITS: usize = 22;
+
+/// An image and a change file at a limit or past it, in the end or midway.
+pub fn fold_limit(rng: &mut Rng, which: usize) -> (Vec<u8>, Vec<u8>) {
+    match which % FOLD_LIMITS {
+        which @ 0..8 => {
+            // records of the image, added ones, and how many of either go
+            let (count, more, back, gone) = [
+                (MOST_RECORDS - 1, 1, 0, 0),
+                (MOST_RECORDS, 1, 0, 0),
+                (MOST_RECORDS, 1, 0, 1),
+                (MOST_RECORDS, 1900, 0, 0),
+                (MOST_RECORDS, 1000, 1000, 0),
+                (MOST_RECORDS, 1000, 999, 0),
+                (MOST_RECORDS - 1000, 1000, 0, 0),
+                (2000, 0, 0, 2000),
+            ][which];
+            let there = many(rng, 10_000, count);
+            // before those of the image, or after them
+            let start = *rng.pick(&[0, 20_000]);
+            let added = many(rng, start, more);
+            let file = file_of(
+                added.iter().rev(),
+                added[..back].iter().chain(&there[..gone]),
+            );
+            (encode(&there), file)
+        }
+        which @ 8..13 => {
+            // bytes that the image lacks, and whether the added record or one of
+            // the image goes
+            let (short, back, gone) =
+                [(23, 0, 0), (22, 0, 0), (0, 1, 0), (0, 0, 1), (24, 0, 0)][which - 8];
+            let length = LONGEST_IMAGE - START.len() - short;
+            let there = filling(rng, 10_000, length, 0);
+            let added = [numbered(rng.below(30_000), 23)];
+            let file = file_of(added.iter(), added[..back].iter().chain(&there[..gone]));
+            (encode(&there), file)
+        }
+        which @ 13..17 => long_file(rng, which - 13),
+        which => overlapping(rng, which - 17),
+    }
+}
+
+fn file_of<'a>(
+    added: impl Iterator<Item = &'a Draft>,
+    removed: impl Iterator<Item = &'a Draft>,
+) -> Vec<u8> {
+    let added = added.flat_map(Draft::addition);
+    added.chain(removed.flat_map(Draft::removal)).collect()
+}
+
+/// 65,536 or 65,537 bytes of changes, all good or one not.
+fn long_file(rng: &mut Rng, which: usize) -> (Vec<u8>, Vec<u8>) {
+    let length = LONGEST_CHANGES + which % 2;
+    let mut added = filling(rng, 10_000, length, 3);
+    if which >= 2 {
+        let half = added.len() / 2;
+        added[half].tag = ENTITY + 1;
+    }
+    (encode(&many(rng, 0, 100)), file_of(added.iter(), [].iter()))
+}
+
+/// Blocks that overlap, where there are too many records, too.
+fn overlapping(rng: &mut Rng, which: usize) -> (Vec<u8>, Vec<u8>) {
+    let block = |number: usize, first: u128, last: u128| {
+        let base = 10 * number as u128;
+        let range = Range {
+            first: base + first,
+            last: base + last,
+        };
+        Draft::block(AS, range, b"h", b"n", true)
+    };
+    let there: Vec<Draft> = match which {
+        // too long, too
+        0 => filling(rng, 0, LONGEST_IMAGE - START.len(), 0),
+        _ => (0..MOST_RECORDS)
+            .map(|number| block(number, 0, 3))
+            .collect(),
+    };
+    let last = MOST_RECORDS - 1;
+    let added = match which {
+        0 => vec![block(0, 0, 3), block(0, 2, 5)],
+        // the overlapping record is the last that may be there, or one after it
+        1 => vec![block(last - 1, 2, 5)],
+        2 => vec![block(last, 2, 5)],
+        // the first ones of many
+        3 => vec![block(0, 2, 5), block(1, 2, 5)],
+        _ => vec![block(0, 2, 15), block(9, 0, 1)],
+    };
+    (encode(&there), file_of(added.iter(), [].iter()))
 }
 
 // Paths

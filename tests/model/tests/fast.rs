@@ -1,7 +1,7 @@
 //! The two implementations give the same on generated inputs.
 
 use model::generate::{self, Aims, Rng};
-use model::{fast, Prefixed, Reply, MOST_PREFIXES, RELATIONS};
+use model::{fast, Folded, Prefixed, Reply, MOST_PREFIXES, RELATIONS};
 
 const FILL: u32 = 0xA5A5_5A5A;
 const FILL_BYTE: u8 = 0xA5;
@@ -144,10 +144,60 @@ fn same_prefixes() {
         }
     }
     println!("lists of prefixes by reason from 0: {reasons:?}");
-    for (reason, &lists) in reasons.iter().enumerate() {
-        assert_eq!(lists > 0, [0, 6, 9].contains(&reason), "reason {reason}");
-    }
+    assert_occurred(&reasons, &[0, 6, 9]);
     assert_eq!(longest, MOST_PREFIXES);
+}
+
+/// An image and a change file: each limit once, then any.
+fn fold_inputs(rng: &mut Rng, number: usize) -> (Vec<u8>, Vec<u8>) {
+    if number < generate::FOLD_LIMITS {
+        return generate::fold_limit(rng, number);
+    }
+    let image = match number - generate::FOLD_LIMITS {
+        which @ 0..generate::LIMITS => generate::limit(rng, which),
+        number if number % 5 == 0 => generate::damaged(rng),
+        _ => generate::sound(rng),
+    };
+    let checked = model::check(&image);
+    let aims = Aims::new(&image, &checked);
+    let changes = generate::changes(rng, &aims, &generate::drafts_of(&image, &checked));
+    (image, changes)
+}
+
+#[test]
+fn same_folds() {
+    let mut rng = Rng::new(7);
+    let mut reasons = [0; 13];
+    // by defect, under reasons 2 and 12
+    let (mut before, mut after) = ([0; 8], [0; 8]);
+    for number in 0..20_000 {
+        let (image, changes) = fold_inputs(&mut rng, number);
+        let made = model::final_image(&image, &model::check(&image), &changes);
+        let length = made.as_ref().map_or(0, Vec::len);
+        let room = generate::final_room(&mut rng, length);
+        let plain = |out: &mut [u8]| model::put_final(&made, out);
+        let expected: (Folded, _) = with_room(room, FILL_BYTE, plain);
+        assert!(
+            with_room(room, FILL_BYTE, |out| fast::fold(&image, &changes, out)) == expected,
+            "{changes:02x?} into {image:02x?}, {room} bytes lent"
+        );
+        reasons[expected.0.reason as usize] += 1;
+        match expected.0.reason {
+            2 => before[expected.0.defect as usize] += 1,
+            12 => after[expected.0.defect as usize] += 1,
+            _ => {}
+        }
+    }
+    println!("folds by reason from 0: {reasons:?}, by defect: {before:?}, {after:?}");
+    assert_occurred(&reasons, &[0, 2, 9, 11, 12]);
+    assert_occurred(&before, &[1, 2, 3, 4, 5, 6, 7]);
+    assert_occurred(&after, &[1, 3, 7]);
+}
+
+/// These occurred, and no others.
+fn assert_occurred(counts: &[u32], wanted: &[usize]) {
+    let found: Vec<usize> = (0..counts.len()).filter(|&at| counts[at] > 0).collect();
+    assert_eq!(found, wanted);
 }
 
 #[test]

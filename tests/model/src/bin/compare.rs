@@ -1,20 +1,22 @@
 //! Compares every public function with the model, call by call: the reply, the
-//! whole list or entries afterwards or the part, and that nothing beside them was
-//! written.
+//! whole list, entries or final image afterwards or the part, and that nothing
+//! beside them was written. Folds of two files in turn are compared with those of
+//! their joining, too.
 //!
 //!     compare [--calls N] [--seed S] [--seconds T] [--image I] [--trace]
 //!
 //! N calls of each function (100,000), from the seed S (1), for at most T
-//! seconds (100). Every image has a number; `--image I` runs the calls on that
-//! one only, and `--trace` writes each call to standard error before it is made.
+//! seconds (100). Among 100,000 folds each of their reasons and defects must occur.
+//! Every image has a number; `--image I` runs the calls on that one only, and
+//! `--trace` writes each call to standard error before it is made.
 //! With the feature `ffi` the library is compared, else src/fast.rs.
 
-use model::generate::{self, Aims, Rng};
-use model::{subject, Checked, Relation, RELATIONS};
+use model::generate::{self, Aims, Draft, Rng};
+use model::{subject, Checked, Folded, Relation, LONGEST_CHANGES, RELATIONS};
 use std::process::ExitCode;
 use std::time::{Duration, Instant};
 
-const FUNCTIONS: [&str; 10] = [
+const FUNCTIONS: [&str; 11] = [
     "rdap_answer",
     "rdap_up",
     "rdap_down",
@@ -25,6 +27,7 @@ const FUNCTIONS: [&str; 10] = [
     "rdap_batch",
     "rdap_range",
     "rdap_prefixes",
+    "rdap_fold",
 ];
 const ANSWER: usize = 0;
 const HANDLE: usize = 5;
@@ -32,12 +35,66 @@ const NAME: usize = 6;
 const BATCH: usize = 7;
 const RANGE: usize = 8;
 const PREFIXES: usize = 9;
+const FOLD: usize = 10;
 
 /// How often each reason occurred.
-type Reasons = [u64; 11];
+type Reasons = [u64; 13];
 
 /// After so many differences the run stops.
 const ENOUGH: u64 = 10;
+
+/// Among so many folds each of their reasons and defects occurs.
+const MANY_FOLDS: u64 = 100_000;
+
+/// What occurred among the folds.
+#[derive(Default)]
+struct Folds {
+    reasons: Reasons,
+    /// By defect, of the images (reason 2) and of the final images (reason 12).
+    before: [u64; 8],
+    after: [u64; 8],
+    joined: u64,
+}
+
+impl Folds {
+    fn note(&mut self, reply: Folded) {
+        self.reasons[reply.reason as usize] += 1;
+        match reply.reason {
+            2 => self.before[reply.defect as usize] += 1,
+            12 => self.after[reply.defect as usize] += 1,
+            _ => {}
+        }
+    }
+
+    /// Whether something that should have occurred did not.
+    fn lack(&self) -> bool {
+        let lacks = |counts: &[u64], wanted: &[usize]| wanted.iter().any(|&at| counts[at] == 0);
+        lacks(&self.reasons, &[0, 2, 9, 11, 12])
+            || lacks(&self.before, &[1, 2, 3, 4, 5, 6, 7])
+            || lacks(&self.after, &[1, 3, 7])
+            || self.joined == 0
+    }
+}
+
+/// An image, what the model says of it, and what is aimed at.
+struct Base {
+    image: Vec<u8>,
+    checked: Checked,
+    aims: Aims,
+    drafts: Vec<Draft>,
+}
+
+impl Base {
+    fn new(image: Vec<u8>) -> Base {
+        let checked = model::check(&image);
+        Base {
+            aims: Aims::new(&image, &checked),
+            drafts: generate::drafts_of(&image, &checked),
+            image,
+            checked,
+        }
+    }
+}
 
 struct Options {
     calls: u64,
@@ -129,9 +186,19 @@ fn pattern(place: usize) -> u32 {
     0xA5A5_0000 ^ (place as u32).wrapping_mul(0x0001_0003)
 }
 
-/// The same for a byte among the entries.
+/// The same for a byte among the entries or of the final image.
 fn byte_pattern(place: usize) -> u8 {
     pattern(place) as u8 ^ 0xA5
+}
+
+/// The image of this number: each limit once, then any.
+fn draw(number: u64, rng: &mut Rng) -> Vec<u8> {
+    match (number as usize, rng.below(1000)) {
+        (which @ 0..generate::LIMITS, _) => generate::limit(rng, which),
+        (_, 0 | 1) => generate::many_blocks(rng),
+        (_, 2..=799) => generate::damaged(rng),
+        _ => generate::sound(rng),
+    }
 }
 
 struct Run {
@@ -144,6 +211,7 @@ struct Run {
     /// Those of the lists of prefixes, and how many the longest has.
     lists: Reasons,
     longest: u32,
+    folds: Folds,
     defects: [u64; 8],
     failed: u64,
     path: Guarded<u8>,
@@ -154,25 +222,43 @@ struct Run {
 }
 
 impl Run {
+    fn new(options: Options) -> Run {
+        Run {
+            options,
+            calls: [0; FUNCTIONS.len()],
+            reasons: Reasons::default(),
+            batches: Reasons::default(),
+            answers: Reasons::default(),
+            lists: Reasons::default(),
+            longest: 0,
+            folds: Folds::default(),
+            defects: [0; 8],
+            failed: 0,
+            path: Guarded::new(0xC3),
+            image: Guarded::new(0x3C),
+            list: Guarded::new(0xDEAD_BEEF),
+            out: Guarded::new(0x96),
+            reply: Guarded::new(0xFEED_F00D),
+        }
+    }
+
     fn is_finished(&self) -> bool {
         self.calls.iter().all(|&calls| calls >= self.options.calls) || self.failed >= ENOUGH
     }
 
     fn image(&mut self, number: u64) {
         let mut rng = Rng::part(self.options.seed, number);
-        let image = match (number as usize, rng.below(1000)) {
-            // each limit once
-            (which @ 0..generate::LIMITS, _) => generate::limit(&mut rng, which),
-            (_, 0 | 1) => generate::many_blocks(&mut rng),
-            (_, 2..=799) => generate::damaged(&mut rng),
-            _ => generate::sound(&mut rng),
-        };
-        let checked = model::check(&image);
+        let base = Base::new(draw(number, &mut rng));
+        let Base {
+            image,
+            checked,
+            aims,
+            ..
+        } = &base;
         self.defects[checked.as_ref().err().map_or(0, |found| found.defect) as usize] += 1;
-        let aims = Aims::new(&image, &checked);
         // The model is slow on large images, and a defective one has but one
         // answer.
-        let rounds = match &checked {
+        let rounds = match checked {
             Ok(_) if !aims.is_large() => 60,
             _ => 3,
         };
@@ -182,19 +268,23 @@ impl Run {
             if self.failed >= ENOUGH {
                 return;
             }
-            let path = generate::path(&mut rng, &aims);
-            self.answer(number, &mut rng, &path, &image, &checked);
-            self.batch(number, &mut rng, &aims, &image, &checked);
+            let path = generate::path(&mut rng, aims);
+            self.answer(number, &mut rng, &path, image, checked);
+            self.batch(number, &mut rng, aims, image, checked);
             for relation in RELATIONS {
-                let record = generate::record(&mut rng, &aims);
-                self.relation(number, &mut rng, relation, record, &image, &checked);
+                let record = generate::record(&mut rng, aims);
+                self.relation(number, &mut rng, relation, record, image, checked);
             }
             for function in [HANDLE, NAME, RANGE] {
-                let record = generate::record(&mut rng, &aims);
-                self.part(number, function, record, &image, &checked);
+                let record = generate::record(&mut rng, aims);
+                self.part(number, function, record, image, checked);
             }
-            let range = generate::range(&mut rng, &aims);
+            let range = generate::range(&mut rng, aims);
             self.prefixes(number, &mut rng, &range);
+            self.folds(number, &mut rng, &base);
+        }
+        if (number as usize) < generate::FOLD_LIMITS {
+            self.fold_limit(number, &mut rng);
         }
     }
 
@@ -239,7 +329,7 @@ impl Run {
         wanted: model::Reply,
         expected: &[u32],
     ) {
-        self.trace(number, function, &format!("{}", text.escape_ascii()));
+        self.trace(number, function, || text.escape_ascii().to_string());
         self.prepare(rng, text, expected.len());
         let call = if function == BATCH {
             subject::batch
@@ -250,7 +340,7 @@ impl Run {
             self.path.contents(),
             self.image.contents(),
             self.list.contents_mut(),
-            as_reply(&mut self.reply),
+            as_words(&mut self.reply),
         );
         let unchanged = self.path.contents() == text && self.path.is_intact();
         self.judge(
@@ -274,14 +364,14 @@ impl Run {
         let wanted = model::relation_checked(checked, record, relation, &mut expected);
 
         let function = relation as usize;
-        self.trace(number, function, &format!("record {record}"));
+        self.trace(number, function, || format!("record {record}"));
         self.prepare(rng, &[], places);
         subject::relation(
             relation,
             self.image.contents(),
             record,
             self.list.contents_mut(),
-            as_reply(&mut self.reply),
+            as_words(&mut self.reply),
         );
         self.judge(
             number,
@@ -334,14 +424,7 @@ impl Run {
         println!("  expected {:?}", wanted.numbers());
         println!("  got      {:?}", self.reply.contents());
         if !same_list {
-            let at = (0..expected.len())
-                .find(|&at| self.list.contents()[at] != expected[at])
-                .unwrap_or(0);
-            println!(
-                "  list     place {at}: expected {:#x}, got {:#x}",
-                expected[at],
-                self.list.contents()[at]
-            );
+            show_difference("list", expected, self.list.contents());
         }
         if !intact || !unchanged || !self.image_is_whole(image) {
             println!("  a byte beside the buffers, or an input, was written");
@@ -358,9 +441,9 @@ impl Run {
             _ => (model::range_part, subject::range),
         };
         let wanted: [u32; 2] = plain(checked, record).into();
-        self.trace(number, function, &format!("record {record}"));
+        self.trace(number, function, || format!("record {record}"));
         self.reply.place([0xFFFF_FFFF; 2].into_iter(), 0);
-        call(self.image.contents(), record, as_pair(&mut self.reply));
+        call(self.image.contents(), record, as_words(&mut self.reply));
         self.calls[function] += 1;
         if self.reply.contents() == wanted && self.reply.is_intact() && self.image_is_whole(image) {
             return;
@@ -384,43 +467,136 @@ impl Run {
         self.lists[wanted.reason as usize] += 1;
         self.longest = self.longest.max(wanted.count);
 
-        self.trace(number, PREFIXES, &format!("{} in {room} bytes", hex(range)));
-        self.path.place(range.iter().copied(), rng.below(8));
-        self.out.place((0..room).map(byte_pattern), rng.below(8));
-        self.reply.place([0xFFFF_FFFF; 2].into_iter(), rng.below(4));
+        self.trace(number, PREFIXES, || {
+            format!("{} in {room} bytes", hex(range))
+        });
+        self.prepare_bytes(rng, range, room, wanted.numbers().len());
         subject::prefixes(
             self.path.contents(),
             self.out.contents_mut(),
-            as_pair(&mut self.reply),
+            as_words(&mut self.reply),
         );
-        self.judge_prefixes(number, range, wanted, &expected);
+        self.judge_bytes(number, PREFIXES, range, None, &wanted.numbers(), &expected);
     }
 
-    fn judge_prefixes(
+    fn fold_limit(&mut self, number: u64, rng: &mut Rng) {
+        let (image, changes) = generate::fold_limit(rng, number as usize);
+        self.image.place(image.iter().copied(), rng.below(8));
+        self.fold(number, rng, &Base::new(image), &changes, None);
+    }
+
+    /// A fold into the image that is placed, or two in turn and their joining.
+    fn folds(&mut self, number: u64, rng: &mut Rng, base: &Base) {
+        let first = generate::changes(rng, &base.aims, &base.drafts);
+        if !rng.once_in(4) {
+            self.fold(number, rng, base, &first, None);
+            return;
+        }
+        let room = base.image.len() + first.len();
+        let Some(middle) = self.fold(number, rng, base, &first, Some(room)) else {
+            return;
+        };
+        let middle = Base::new(middle);
+        let second = generate::changes(rng, &middle.aims, &middle.drafts);
+        let room = middle.image.len() + second.len();
+        self.image.place(middle.image.iter().copied(), rng.below(8));
+        let last = self.fold(number, rng, &middle, &second, Some(room));
+        self.image.place(base.image.iter().copied(), rng.below(8));
+        let joining = [first, second].concat();
+        if last.is_some() && joining.len() <= LONGEST_CHANGES {
+            self.join(number, rng, base, &joining);
+        }
+    }
+
+    /// "Folding two files in turn equals folding their joining, all numbers and
+    /// bytes": the fold of the second file was the last call.
+    fn join(&mut self, number: u64, rng: &mut Rng, base: &Base, joining: &[u8]) {
+        let reply = self.reply.contents().to_vec();
+        let out = self.out.contents().to_vec();
+        self.folds.joined += 1;
+        self.fold(number, rng, base, joining, Some(out.len()));
+        if self.reply.contents() != reply || self.out.contents() != out {
+            self.report_on(number, FOLD, &base.image);
+            println!("  joining  {}", hex_start(joining));
+            println!("  in turn  {reply:?}");
+            println!("  joined   {:?}", self.reply.contents());
+        }
+    }
+
+    /// Folds a file into the image that is placed, into so many bytes if they are
+    /// given. The final image, if it was written.
+    fn fold(
         &mut self,
         number: u64,
-        range: &[u8],
-        wanted: model::Prefixed,
+        rng: &mut Rng,
+        base: &Base,
+        changes: &[u8],
+        room: Option<usize>,
+    ) -> Option<Vec<u8>> {
+        let made = model::final_image(&base.image, &base.checked, changes);
+        let length = made.as_ref().map_or(0, Vec::len);
+        let room = room.unwrap_or_else(|| generate::final_room(rng, length));
+        let mut expected: Vec<u8> = (0..room).map(byte_pattern).collect();
+        let wanted = model::put_final(&made, &mut expected);
+        self.calls[FOLD] += 1;
+        self.folds.note(wanted);
+
+        self.trace(number, FOLD, || format!("{} in {room} bytes", hex(changes)));
+        self.prepare_bytes(rng, changes, room, wanted.numbers().len());
+        subject::fold(
+            self.image.contents(),
+            self.path.contents(),
+            self.out.contents_mut(),
+            as_words(&mut self.reply),
+        );
+        let image = Some(&base.image[..]);
+        self.judge_bytes(number, FOLD, changes, image, &wanted.numbers(), &expected);
+        made.ok().filter(|_| wanted.reason == 0)
+    }
+
+    /// New buffers for a call that bytes are lent to.
+    fn prepare_bytes(&mut self, rng: &mut Rng, input: &[u8], room: usize, words: usize) {
+        self.path.place(input.iter().copied(), rng.below(8));
+        self.out.place((0..room).map(byte_pattern), rng.below(8));
+        self.reply
+            .place((0..words).map(|_| 0xFFFF_FFFF), rng.below(4));
+    }
+
+    /// Judges such a call on a range, or on a change file and an image.
+    fn judge_bytes(
+        &mut self,
+        number: u64,
+        function: usize,
+        input: &[u8],
+        image: Option<&[u8]>,
+        wanted: &[u32],
         expected: &[u8],
     ) {
-        let same_reply = self.reply.contents() == wanted.numbers();
+        let same_reply = self.reply.contents() == wanted;
         let same_out = self.out.contents() == expected;
         let intact = self.out.is_intact() && self.reply.is_intact();
-        let unchanged = self.path.contents() == range && self.path.is_intact();
+        let unchanged = self.path.contents() == input
+            && self.path.is_intact()
+            && image.is_none_or(|image| self.image_is_whole(image));
         if same_reply && same_out && intact && unchanged {
             return;
         }
-        self.report(number, PREFIXES);
-        println!("  range    {}", hex(range));
+        match image {
+            Some(image) => self.report_on(number, function, image),
+            None => self.report(number, function),
+        }
+        println!("  input    {}", hex_start(input));
         println!("  room     {} bytes", expected.len());
-        println!("  expected {:?} (reason, count)", wanted.numbers());
+        println!("  expected {wanted:?}");
         println!("  got      {:?}", self.reply.contents());
         if !same_out {
-            println!("  expected {}", hex(expected));
-            println!("  got      {}", hex(self.out.contents()));
+            show_difference("out", expected, self.out.contents());
         }
         if !intact || !unchanged {
-            println!("  a byte beside the buffers, or the range, was written");
+            println!("  a byte beside the buffers, or an input, was written");
+            if let Some(image) = image {
+                self.image.place(image.iter().copied(), 0);
+            }
         }
     }
 
@@ -438,33 +614,66 @@ impl Run {
 
     fn report_on(&mut self, number: u64, function: usize, image: &[u8]) {
         self.report(number, function);
-        // A short image is shown; a longer one the options make again.
-        let shown = image.len().min(4096);
         println!("  image    {} bytes", image.len());
-        println!(
-            "  {}{}",
-            hex(&image[..shown]),
-            if shown < image.len() { "..." } else { "" }
-        );
+        println!("  {}", hex_start(image));
     }
 
-    fn trace(&self, number: u64, function: usize, asked: &str) {
+    fn summarize(&self, elapsed: Duration) {
+        println!(
+            "{} and the model, seed {}, {} images, {:.1} s",
+            subject::NAME,
+            self.options.seed,
+            self.defects.iter().sum::<u64>(),
+            elapsed.as_secs_f64()
+        );
+        println!("images by defect, from 0 (sound): {:?}", self.defects);
+        println!("replies by reason, from 0: {:?}", self.reasons);
+        println!("of these, batches: {:?}", self.batches);
+        println!("answers in batches, by reason: {:?}", self.answers);
+        println!(
+            "lists of prefixes, by reason: {:?}; at most {} prefixes",
+            self.lists, self.longest
+        );
+        println!(
+            "folds, by reason: {:?}; {} of them joinings",
+            self.folds.reasons, self.folds.joined
+        );
+        println!(
+            "folds by defect, reason 2: {:?}, reason 12: {:?}",
+            self.folds.before, self.folds.after
+        );
+        for (name, calls) in FUNCTIONS.iter().zip(self.calls) {
+            println!("{name:13} {calls:>9} calls");
+        }
+    }
+
+    fn trace(&self, number: u64, function: usize, asked: impl FnOnce() -> String) {
         if self.options.trace {
-            eprintln!("image {number}: {} {asked}", FUNCTIONS[function]);
+            eprintln!("image {number}: {} {}", FUNCTIONS[function], asked());
         }
     }
 }
 
-fn as_reply(buffer: &mut Guarded<u32>) -> &mut [u32; 7] {
-    buffer.contents_mut().try_into().expect("seven words")
-}
-
-fn as_pair(buffer: &mut Guarded<u32>) -> &mut [u32; 2] {
-    buffer.contents_mut().try_into().expect("two words")
+fn as_words<const N: usize>(buffer: &mut Guarded<u32>) -> &mut [u32; N] {
+    buffer.contents_mut().try_into().expect("so many words")
 }
 
 fn hex(bytes: &[u8]) -> String {
     bytes.iter().map(|byte| format!("{byte:02x}")).collect()
+}
+
+/// Short bytes are shown; longer ones the options make again.
+fn hex_start(bytes: &[u8]) -> String {
+    let shown = bytes.len().min(4096);
+    let more = if shown < bytes.len() { "..." } else { "" };
+    hex(&bytes[..shown]) + more
+}
+
+fn show_difference<T: PartialEq + std::fmt::LowerHex>(name: &str, expected: &[T], got: &[T]) {
+    let mut pairs = expected.iter().zip(got).enumerate();
+    if let Some((at, (expected, got))) = pairs.find(|(_, (expected, got))| expected != got) {
+        println!("  {name:8} place {at}: expected {expected:#x}, got {got:#x}");
+    }
 }
 
 fn main() -> ExitCode {
@@ -478,22 +687,7 @@ fn main() -> ExitCode {
     let start = Instant::now();
     let limit = Duration::from_secs(options.seconds);
     let only = options.image;
-    let mut run = Run {
-        options,
-        calls: [0; FUNCTIONS.len()],
-        reasons: [0; 11],
-        batches: [0; 11],
-        answers: [0; 11],
-        lists: [0; 11],
-        longest: 0,
-        defects: [0; 8],
-        failed: 0,
-        path: Guarded::new(0xC3),
-        image: Guarded::new(0x3C),
-        list: Guarded::new(0xDEAD_BEEF),
-        out: Guarded::new(0x96),
-        reply: Guarded::new(0xFEED_F00D),
-    };
+    let mut run = Run::new(options);
     match only {
         Some(number) => run.image(number),
         None => {
@@ -505,24 +699,11 @@ fn main() -> ExitCode {
             }
         }
     }
-    let images: u64 = run.defects.iter().sum();
-    println!(
-        "{} and the model, seed {}, {images} images, {:.1} s",
-        subject::NAME,
-        run.options.seed,
-        start.elapsed().as_secs_f64()
-    );
-    println!("images by defect, from 0 (sound): {:?}", run.defects);
-    println!("replies by reason, from 0: {:?}", run.reasons);
-    println!("of these, batches: {:?}", run.batches);
-    println!("answers in batches, by reason: {:?}", run.answers);
-    println!(
-        "lists of prefixes, by reason: {:?}; at most {} prefixes",
-        run.lists, run.longest
-    );
-    for (name, calls) in FUNCTIONS.iter().zip(run.calls) {
-        println!("{name:13} {calls:>9} calls");
+    if run.calls[FOLD] >= MANY_FOLDS && run.folds.lack() {
+        println!("a reason or a defect of the folds did not occur");
+        run.failed += 1;
     }
+    run.summarize(start.elapsed());
     let all: u64 = run.calls.iter().sum();
     println!("{} passed, {} failed", all - run.failed, run.failed);
     if run.failed == 0 && all > 0 {
