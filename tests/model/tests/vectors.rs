@@ -2,13 +2,13 @@
 //! with the feature `ffi`, else `src/fast.rs`. The folder is given by the
 //! variable VECTORS, else it is `../vectors` beside this package.
 
-use model::{generate, subject, Prefixed, Range, Relation, Reply, IPV4, IPV6};
+use model::{generate, subject, Folded, Prefixed, Range, Relation, Reply, IPV4, IPV6};
 use std::fs;
 use std::path::PathBuf;
 
 const PLACES: usize = 4096;
 const FILL: u32 = 0xA5A5_5A5A;
-/// No length of a prefix, which each entry ends with.
+/// No length of a prefix, which each entry ends with, nor the last byte of an image.
 const FILL_BYTE: u8 = 0xA5;
 
 /// The public functions of one implementation.
@@ -21,6 +21,7 @@ struct Calls {
     name_of: fn(&[u8], u32) -> &[u8],
     range: fn(&[u8], u32) -> &[u8],
     prefixes: fn(&[u8], &mut [u8]) -> Prefixed,
+    fold: fn(&[u8], &[u8], &mut [u8]) -> Folded,
     defect: fn(&[u8]) -> (u32, u32),
 }
 
@@ -34,6 +35,7 @@ const BOTH: [Calls; 2] = [
         name_of: model::name,
         range: model::range,
         prefixes: model::prefixes,
+        fold: model::fold,
         defect: |image| match model::check(image) {
             Ok(_) => (0, 0),
             Err(found) => (found.defect, found.place),
@@ -54,6 +56,18 @@ const BOTH: [Calls; 2] = [
             subject::prefixes(range, out, &mut reply);
             let [reason, count] = reply;
             Prefixed { reason, count }
+        },
+        fold: |image, changes, out| {
+            let mut reply = [FILL; 5];
+            subject::fold(image, changes, out, &mut reply);
+            let [reason, count, defect, place, offset] = reply;
+            Folded {
+                reason,
+                count,
+                defect,
+                place,
+                offset,
+            }
         },
         defect: |image| {
             let reply = reply_of(|reply| subject::answer(b"/help", image, &mut [], reply));
@@ -411,14 +425,17 @@ fn run_row(calls: &Calls, folder: &str, row: &[&[u8]]) -> [Vec<u8>; 2] {
     [column(&reply), column(written(&list, FILL))]
 }
 
-/// The same for the call that takes a range and lends bytes.
-fn run_prefixes(calls: &Calls, folder: &str, row: &[&[u8]]) -> [Vec<u8>; 2] {
+/// The same for the calls that bytes are lent to.
+fn run_on_bytes(calls: &Calls, folder: &str, row: &[&[u8]]) -> [Vec<u8>; 2] {
     let mut out = vec![FILL_BYTE; number(row[3])];
-    let reply = (calls.prefixes)(&input(folder, row[1]), &mut out);
-    [
-        column(&reply.numbers()),
-        hex_column(written(&out, FILL_BYTE)),
-    ]
+    let first = input(folder, row[1]);
+    let reply = if row[0] == b"rdap_fold" {
+        let changes = input(folder, row[2]);
+        column(&(calls.fold)(&first, &changes, &mut out).numbers())
+    } else {
+        column(&(calls.prefixes)(&first, &mut out).numbers())
+    };
+    [reply, hex_column(written(&out, FILL_BYTE))]
 }
 
 /// What a call is to reply and to write.
@@ -449,7 +466,7 @@ fn changes() {
         run_table(&format!("{folder}/rows.tsv"), |calls, row, tally| {
             if newest <= number(row[7]) {
                 let run = match row[0] {
-                    b"rdap_prefixes" => run_prefixes,
+                    b"rdap_prefixes" | b"rdap_fold" => run_on_bytes,
                     _ => run_row,
                 };
                 let expected = expected_of(&folder, row).join(&b'\t');
