@@ -2,7 +2,7 @@
 //! the same run and by turns; each figure is the least of many repetitions.
 //!
 //!     bench [--shape NAME] [--kind TEXT] [--repetitions N] [--seconds T]
-//!           [--table | --over-check | --prefixes]
+//!           [--table | --over-check | --prefixes | --folds]
 //!
 //! N repetitions (40) of every row, fewer if T seconds (100) are over before.
 //! Every call on an image checks it. The row `check` is the path `/help`, which
@@ -13,11 +13,19 @@
 //! beside each the check alone, in place of the Rust.
 //! `--prefixes` measures the lists of prefixes of ranges, for which there is no
 //! image: the longest ones, one prefix, and a room that is a byte too short.
+//! `--folds` measures change files, and beside each the check alone, too: into an
+//! image with the most records and nearly the most bytes no change, 100 changes
+//! and files of 4 to 64 KB that replace records all over it; then the largest files
+//! of additions that come before all records, each one before the last, which into
+//! 4,096 records give reason 12.
 
+mod folds;
+
+use folds::Input;
 use model::generate::{Draft, Rng};
 use model::{
     fast, generate, subject, Part, Range, Record, Relation, AS, DOMAIN, ENTITY, IPV4, IPV6,
-    MOST_PATHS, MOST_PREFIXES, MOST_RECORDS, NAMESERVER,
+    LONGEST_IMAGE, MOST_PATHS, MOST_PREFIXES, MOST_RECORDS, NAMESERVER,
 };
 use std::collections::BTreeSet;
 use std::hint::black_box;
@@ -86,10 +94,15 @@ fn tree(count: usize, bits: u32) -> Vec<Range> {
     ranges
 }
 
+/// The sixth of so many records that a tag has.
+fn per_tag(count: usize, tag: u8) -> usize {
+    count / 6 + usize::from(usize::from(tag - IPV4) < count % 6)
+}
+
 /// A sixth of each tag, blocks in trees.
 fn mixed(count: usize) -> Vec<Draft> {
     let of_tag = |tag: u8| {
-        let count = count / 6 + usize::from(usize::from(tag - IPV4) < count % 6);
+        let count = per_tag(count, tag);
         match tag {
             IPV4 => blocks(tag, "NET", tree(count, 32)),
             IPV6 => blocks(tag, "NET6", tree(count, 128)),
@@ -223,14 +236,14 @@ fn image(shape: &str, count: usize) -> Vec<u8> {
 #[derive(PartialEq)]
 struct Lent {
     list: [u32; PLACES],
-    out: [u8; ROOM],
+    out: [u8; LONGEST_IMAGE],
 }
 
 impl Lent {
     fn new() -> Lent {
         Lent {
             list: [u32::MAX; PLACES],
-            out: [u8::MAX; ROOM],
+            out: [u8::MAX; LONGEST_IMAGE],
         }
     }
 }
@@ -245,6 +258,8 @@ enum Call {
     Range(u32),
     /// A range and how many bytes are lent.
     Prefixes(Vec<u8>, usize),
+    /// A change file.
+    Fold(Vec<u8>),
 }
 
 impl Call {
@@ -260,6 +275,7 @@ impl Call {
             Call::Name(record) => fast::name_part(image, *record).1,
             Call::Range(record) => fast::range_part(image, *record).1,
             Call::Prefixes(range, room) => fast::prefixes(range, &mut lent.out[..*room]).count,
+            Call::Fold(changes) => fast::fold(image, changes, &mut lent.out).count,
         }
     }
 
@@ -295,6 +311,11 @@ impl Call {
             Call::Prefixes(range, room) => {
                 subject::prefixes(range, &mut lent.out[..*room], &mut part);
                 part[1]
+            }
+            Call::Fold(changes) => {
+                let mut folded = [0; 5];
+                subject::fold(image, changes, &mut lent.out, &mut folded);
+                folded[1]
             }
         }
     }
@@ -542,6 +563,7 @@ enum Print {
     Table,
     OverCheck,
     Prefixes,
+    Folds,
 }
 
 /// What the words on the command line ask for.
@@ -577,6 +599,7 @@ impl Options {
                 "--table" => options.print = Print::Table,
                 "--over-check" => options.print = Print::OverCheck,
                 "--prefixes" => options.print = Print::Prefixes,
+                "--folds" => options.print = Print::Folds,
                 _ => panic!("{word}: no such option"),
             }
         }
@@ -650,12 +673,16 @@ fn rows<'a>(images: &'a [Vec<u8>], options: &Options) -> Rows<'a> {
             if rows.len() == at {
                 rows.push((name, Vec::new()));
             }
-            let check = || Call::Answer(b"/help".to_vec());
             let beside = options.over_check().then(check);
             rows[at].1.push(Cell::new(image, call, beside));
         }
     }
     rows
+}
+
+/// A call that does nothing but check the image.
+fn check() -> Call {
+    Call::Answer(b"/help".to_vec())
 }
 
 fn list_rows(options: &Options) -> Rows<'static> {
@@ -666,6 +693,25 @@ fn list_rows(options: &Options) -> Rows<'static> {
         (name, vec![Cell::new(&[], call, None)])
     };
     lists.into_iter().map(row).collect()
+}
+
+/// Each fold beside the Rust, and beside the check alone.
+fn fold_rows(inputs: &[Input]) -> Rows<'_> {
+    inputs.iter().map(fold_row).collect()
+}
+
+fn fold_row(input: &Input) -> (String, Vec<Cell<'_>>) {
+    let (image, changes) = (&input.image[..], &input.changes[..]);
+    let call = || Call::Fold(changes.to_vec());
+    assert_same(&input.name, &call(), image);
+    let folded = fast::fold(image, changes, &mut Lent::new().out);
+    let mut reply = [u32::MAX; 5];
+    subject::fold(image, changes, &mut Lent::new().out, &mut reply);
+    assert_eq!(folded.numbers(), reply, "{}", input.name);
+    assert_eq!(folded.reason, input.reason, "{}", input.name);
+    let besides = [None, Some(check())];
+    let cells = besides.map(|beside| Cell::new(image, call(), beside));
+    (input.name.clone(), cells.into())
 }
 
 fn print_rows(shape: &str, images: &[Vec<u8>], rows: &Rows) {
@@ -750,6 +796,56 @@ fn print_prefixes(rows: &Rows) {
     println!();
 }
 
+fn print_folds(inputs: &[Input], rows: &Rows) {
+    println!(
+        "{:16} {:>7} {:>7} {:>7} {:>8} {:>8} {:>13} {:>8} {:>14}",
+        "us a call",
+        "records",
+        "bytes",
+        "file",
+        "fast",
+        "library",
+        "library/fast",
+        "check",
+        "library/check"
+    );
+    for (input, (kind, cells)) in inputs.iter().zip(rows) {
+        let (fast, library) = cells[0].least;
+        let (check, _) = cells[1].least;
+        println!(
+            "{kind:16} {:>7} {:>7} {:>7} {:8.1} {:8.1} {:13.2} {:8.1} {:14.2}",
+            Registry::new(&input.image).records.len(),
+            input.image.len(),
+            input.changes.len(),
+            fast / 1e3,
+            library / 1e3,
+            cells[0].ratio(),
+            check / 1e3,
+            cells[1].ratio()
+        );
+    }
+    println!();
+}
+
+/// The longest fold, and how the time grows with the file.
+fn print_fold_summary(rows: &Rows) {
+    let times: Vec<(&str, f64)> = rows
+        .iter()
+        .map(|(name, cells)| (name.as_str(), cells[0].least.1))
+        .collect();
+    let longest = times.iter().map(|row| row.1).fold(0.0, f64::max);
+    println!("longest fold {:.2} ms", longest / 1e6);
+    for kind in folds::GROWING {
+        let of_kind = times.iter().filter(|row| row.0.starts_with(kind));
+        let of_kind: Vec<f64> = of_kind.map(|row| row.1).collect();
+        let growth = of_kind.windows(2).map(|pair| pair[1] / pair[0]);
+        let growth: Vec<String> = growth.map(|ratio| format!("{ratio:.2}")).collect();
+        if !growth.is_empty() {
+            println!("{kind}, twice the file: growth {}", growth.join(", "));
+        }
+    }
+}
+
 fn largest_ratio(tables: &[Rows]) -> f64 {
     let cells = tables.iter().flatten().flat_map(|(_, cells)| cells);
     cells.map(Cell::ratio).fold(0.0, f64::max)
@@ -804,22 +900,27 @@ fn measure(tables: &mut [Rows], options: &Options) -> u32 {
 
 fn main() {
     let options = Options::read();
-    let lists_only = options.print == Print::Prefixes;
-    let shapes = if lists_only {
-        Vec::new()
-    } else {
-        options.shapes()
+    let shapes = match options.print {
+        Print::Prefixes | Print::Folds => Vec::new(),
+        _ => options.shapes(),
     };
-    let mut tables: Vec<Rows> = shapes
-        .iter()
-        .map(|(_, images)| rows(images, &options))
-        .collect();
-    if lists_only {
-        tables.push(list_rows(&options));
-    }
+    let mut inputs = match options.print {
+        Print::Folds => folds::inputs(),
+        _ => Vec::new(),
+    };
+    inputs.retain(|input| options.asks_for(&input.name));
+    let mut tables: Vec<Rows> = match options.print {
+        Print::Prefixes => vec![list_rows(&options)],
+        Print::Folds => vec![fold_rows(&inputs)],
+        _ => shapes
+            .iter()
+            .map(|(_, images)| rows(images, &options))
+            .collect(),
+    };
     let done = measure(&mut tables, &options);
     match options.print {
         Print::Prefixes => print_prefixes(&tables[0]),
+        Print::Folds => print_folds(&inputs, &tables[0]),
         Print::OverCheck => print_over_check(&shapes, &tables),
         Print::Table => print_table(&shapes, &tables),
         Print::Rows => {
@@ -832,6 +933,7 @@ fn main() {
     match options.print {
         Print::OverCheck => {}
         Print::Prefixes => println!("largest library/fast {:.2}", largest_ratio(&tables)),
+        Print::Folds => print_fold_summary(&tables[0]),
         Print::Rows | Print::Table => print_summary(&tables),
     }
 }
