@@ -1,30 +1,35 @@
 -- One change of a file, test by test.
 use mathlib.Core.Path.{_≡_, refl, sym, _∙_, ap}
 use mathlib.Core.Bool.{Bool, true, false, cond, _&&_, false≢true}
-use mathlib.Core.List.{List, [], _∷_}
+use mathlib.Core.List.{List, [], _∷_, append-nil}
 use Prim.Native.Nat.{ℕ, suc, _+_, _-_, _*_, _≤_, _<_}
 use native.Mathlib.Omega.{arith}
-use borrow.Author.Tests.{le-leb, lt-leb, leb-true, eq-eqb, ne-eqb, eqb-true}
-use lib.Dec.{leb}
-use lib.ListN.{length, getD, take, drop, length-drop, drop-of-length-le}
-use lib.Seq.{slice, take-all, drop-cons, slice-cons, length-slice}
+use borrow.Author.Tests.{le-leb, lt-leb, leb-true, eq-eqb, ne-eqb, eqb-true, eqb-false}
+use lib.Dec.{leb, eqb}
+use lib.ListN.{length, getD, take, drop, length-take, length-drop}
+use lib.Seq.{slice, take-all, slice-cons, length-slice}
 use Rattle.address.specs.Ranges.{wellFormed}
 use Rattle.address.specs.Positions.{numberIn}
-use Rattle.fields.specs.Field.{field, headOf}
+use Rattle.fields.specs.Field.{Head, field, short, headOf, sizeOf}
 use Rattle.fields.specs.Place.{fieldAt}
 use Rattle.fields.specs.declared.Field.{Field}
 use Rattle.fields.specs.declared.Field.the-variants.{Whole, Short}
 use Rattle.name.specs.Texts.{goodText, goodHost}
 use Rattle.records.specs.Record.{Record, isKnown, widthOf, goodName}
-use Rattle.records.specs.Judge.{bad, good, inOrder, crossesAny, judgeOverlap, judge}
-use Rattle.records.specs.Layout.{layoutOf, recordOn, Judging}
-use Rattle.records.specs.declared.Judgement.{Judgement}
-use Rattle.records.specs.declared.Judgement.the-variants.{Good, Bad}
+use Rattle.records.specs.Judge.{Judged, bad, good, judge}
 use Rattle.records.proofs.Shapes.{no-block, a-block}
-use Rattle.image.specs.Place.{goodBlock}
-use Rattle.image.proofs.Judged.{judged-on}
+use Rattle.image.specs.Image.{sound, imageFrom}
+use Rattle.image.specs.Part.{recordsOf}
+use Rattle.image.specs.Place.{verdictOf}
+use Rattle.image.specs.declared.Verdict.{Verdict}
+use Rattle.image.specs.declared.Verdict.the-variants.{Sound, Defective}
+use Rattle.image.proofs.Soundness.{is-sound, counted}
+use Rattle.image.proofs.Walk.{from-end}
+use Rattle.rows.specs.Entry.{entriesOf, rowOf}
+use Rattle.rows.specs.Good.{AllGood, good-cons}
+use Rattle.rows.proofs.Rows.{image-step, reads}
 use Rattle.changes.specs.Change as Changes
-use Rattle.changes.specs.Change.{keyed, goodKey, changeOf}
+use Rattle.changes.specs.Change.{keyed, goodKey, addJudged, addOf, changeOf}
 use Rattle.merged.specs.Held.{parsedFrom, entryOf}
 use Rattle.applying.specs.Steps.{Addition, Removal, Stated, ChangeAt}
 use Rattle.applying.specs.declared.Change.the-variants.{Add, Remove, Malformed}
@@ -35,43 +40,52 @@ use Rattle.merged.proofs.Fields.{bytes-inside, head-short, head-whole}
 no-true : {A : Type 0} → false ≡ true → A
 no-true e = absurd (false≢true e)
 
-module _ (s : List ℕ) (f : Field) (e : f ≡ fieldAt s 0 (length s)) where
-  pub add-short : f ≡ Short → Addition s false
-  add-short g = record { is = rw (head-short s 0 f e (omega arith) g); whole = no-true }
+module _ (s : List ℕ) where
+  -- the one record of a row of one
+  by-good : (tag : ℕ) (contents : List ℕ) (r : Record) → headOf s ≡ field tag contents [] → judge [] tag contents ≡ good r → Addition s true
+  unfolding parsedFrom
+  by-good tag contents r h k =
+      let p : parsedFrom s ≡ r = rw (h, k) in
+      record { is = rw (h, k); whole = λ z. record { tag = tag; contents = contents; head = h; alone = k ∙ ap good (sym p) } }
 
-  module _ (tag a b : ℕ) (g : f ≡ Whole tag a b) where
-    head : headOf s ≡ field tag (slice a b s) (drop b s)
-    head = head-whole s 0 f e tag a b g
+  by-records : (records : List Record) → length records ≡ 1 → AllGood (entriesOf records s) → rowOf (entriesOf records s) ≡ s → Addition s true
+  unfolding entriesOf rowOf
+  by-records [] h g e = absurd (omega arith)
+  by-records (p ∷ r ∷ records) h g e = absurd (omega arith)
+  by-records (r ∷ []) h (good-cons g rest) e =
+      let all : take (sizeOf s) s ≡ s = sym (append-nil (take (sizeOf s) s)) ∙ e in
+      by-good (g .tag) (g .contents) r (rw all at (g .head)) (g .alone)
 
-    pub add-longer : (b ≡ length s → ⊥) → Addition s false
-    add-longer n =
-        let i = bytes-inside s 0 f e tag a b g in
-        record { is = rw (head, drop-cons s b 0 (omega (arith, i .within, n))); whole = no-true }
+  module _ (v : Verdict) (e : v ≡ verdictOf (imageFrom 4096 [] s)) where
+    add-one : v ≡ Sound 1 → Addition s true
+    add-one f =
+        let i = imageFrom 4096 [] s in
+        let w = reads 4096 [] (recordsOf i) s (is-sound i 1 (sym e ∙ f)) in
+        by-records (w .later) (sym (ap length (w .all)) ∙ counted i 1 (sym e ∙ f)) (w .stand) (w .row)
 
-    module _ (h : b ≡ length s) where
-      alone : headOf s ≡ field tag (slice a b s) []
-      alone = rw (drop-of-length-le s {i = b} (omega arith)) at head
+    add-none : (v ≡ Sound 1 → ⊥) → Addition s false
+    add-none n = record { is = by-head (headOf s) refl; whole = no-true }
+      where
+        by-judged : (tag : ℕ) (contents : List ℕ) → headOf s ≡ field tag contents [] → (j : Judged) → judge [] tag contents ≡ j → addJudged s j ≡ Changes.malformed
+        by-judged tag contents h (bad d) k = refl
+        by-judged tag contents h (good r) k =
+            let x : imageFrom 4096 [] s ≡ sound (r ∷ []) = image-step [] tag contents [] 4095 s h ∙ rw k (from-end (r ∷ []) 4095) in
+            absurd (n (e ∙ ap verdictOf x))
 
-      by-good : (r : Record) → judge [] tag (slice a b s) ≡ good r → Addition s true
-      unfolding parsedFrom
-      by-good r k =
-          let p : parsedFrom s ≡ r = rw (alone, k) in
-          record { is = rw (alone, k); whole = λ z. record { tag = tag; contents = slice a b s; head = alone; alone = k ∙ ap good (sym p) } }
+        by-head : (h : Head) → headOf s ≡ h → addOf s h ≡ Changes.malformed
+        by-head short x = refl
+        by-head (field tag contents (b ∷ rest)) x = refl
+        by-head (field tag contents []) x = by-judged tag contents x (judge [] tag contents) refl
 
-      by-bad : (d : ℕ) → judge [] tag (slice a b s) ≡ bad d → Addition s false
-      by-bad d k = record { is = rw (alone, k); whole = no-true }
+    pub add-counted : (count : ℕ) → v ≡ Sound count → Addition s (eqb count 1)
+    add-counted count f = by-count (eqb count 1) refl
+      where
+        by-count : (t : Bool) → eqb count 1 ≡ t → Addition s t
+        by-count true x = add-one (f ∙ ap Sound (eqb-true count 1 x))
+        by-count false x = add-none (λ z. let k : count ≡ 1 = cc in eqb-false count 1 x k)
 
-      module _ (j : Judgement) (m : Judging s tag a b j) where
-        pub add-bad : (d : ℕ) → j ≡ Bad d → Addition s false
-        add-bad d x = let k : Judging s tag a b (Bad d) = rw x at m in by-bad d (ap (judgeOverlap []) (k []))
-
-        pub add-good : (middle : ℕ) → j ≡ Good middle → (t : Bool) → t ≡ goodBlock (recordOn s (layoutOf tag a middle b)) → Addition s t
-        unfolding inOrder crossesAny
-        add-good middle x t y = by-test t (judged-on s (layoutOf tag a middle b) (rw x at m) [] t true false (sym y) refl refl)
-          where
-            by-test : (t : Bool) → judge [] tag (slice a b s) ≡ cond t (good (recordOn s (layoutOf tag a middle b))) (bad 5) → Addition s t
-            by-test true k = by-good (recordOn s (layoutOf tag a middle b)) k
-            by-test false k = by-bad 5 k
+    pub add-defective : (defect place : ℕ) → v ≡ Defective defect place → Addition s false
+    add-defective defect place f = add-none (λ z. let k : _≡_ {A = ℕ} 0 1 = cc in omega arith)
 
 -- Removals
 
@@ -136,6 +150,10 @@ module _ (tag : ℕ) (key : List ℕ) where
   key-host h l n t e = rw (no-block tag h, ne-eqb tag 21 n, le-leb 0x13 tag (omega arith), le-leb tag 0x14 (omega arith)) e
 
 -- Changes
+
+-- a part of a file is no longer than an image may be
+pub part-short : (s : List ℕ) (a n : ℕ) → length s ≤ 65536 → length (take n (drop a s)) ≤ 262144
+part-short s a n h = omega (arith, length-take n (drop a s), length-drop a s)
 
 module _ (s : List ℕ) (at : ℕ) (l : at ≤ length s) (f : Field) (e : f ≡ fieldAt s at (length s)) where
   pub change-short : f ≡ Short → ChangeAt s at Malformed

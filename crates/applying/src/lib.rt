@@ -11,38 +11,24 @@ ghost use Rattle.applying.specs.Steps.{Addition, Removal, ChangeAt, Appl
 use address::numbers_at_most;
 use fields::Field;
 use fields::step_at;
-use image::block_ok;
+use image::Verdict;
+use image::index_from;
 use merged::insert_at;
 use merged::is_there;
 use merged::key_of;
 use merged::rank;
 use merged::remove_at;
-use records::Judgement;
-use records::Layout;
-use records::judge;
 use records::width_of;
 
-// Whether this is a whole record without defects 3, 4 and 5, and nothing after it.
+// Whether this is a whole record without defects 3, 4 and 5, and nothing after it: one record without a defect.
 fn good_record(r: &[u8]) -> bool
+    requires { ⌜ length (now r) ≤ 262144 ⌝ }
     ensures { λ b. ⌜ Addition (now (r .entry)) b ⌝ }
 {
-    let Field::Whole { tag, start, end } = step_at(r, 0) else {
-        return false;
-    };
-    if end != r.len() {
-        return false;
-    }
-    match judge(r, tag, start, end) {
-        Judgement::Good(middle) => block_ok(
-            r,
-            Layout {
-                tag,
-                start,
-                middle,
-                end,
-            },
-        ),
-        Judgement::Bad(_) => false,
+    let mut places = [0u32; 4096];
+    match index_from(r, 0, &mut places) {
+        Verdict::Sound(count) => count == 1,
+        Verdict::Defective(_, _) => false,
     }
 }
 
@@ -89,7 +75,7 @@ enum Change {
 }
 
 fn change_at(changes: &[u8], at: usize) -> Change
-    requires { ⌜ at ≤ length (now changes) ⌝ }
+    requires { ⌜ (at ≤ length (now changes)) × (length (now changes) ≤ 65536) ⌝ }
     ensures { λ r. ⌜ ChangeAt (now (changes .entry)) at r ⌝ }
 {
     let Field::Whole { tag, start, end } = step_at(changes, at) else {

@@ -1,7 +1,7 @@
 -- The open blocks stand for all earlier ones: whatever comes later in the sorting overlaps one of the earlier blocks exactly
 -- if it overlaps one of the open ones, and it does so exactly if it sticks out of the innermost.
 use mathlib.Core.Path.{_≡_, refl, sym, _∙_}
-use mathlib.Core.Bool.{Bool, true, false, cond, not}
+use mathlib.Core.Bool.{Bool, true, false, cond}
 use mathlib.Core.List.{List, [], _∷_, map}
 use Prim.Native.Nat.{ℕ, _≤_}
 use borrow.Author.Tests.{leb-true, leb-false, not-false}

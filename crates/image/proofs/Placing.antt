@@ -86,16 +86,16 @@ module _ (s : List ℕ) (p r : Layout) (h : 16 ≤ r .tag) where
 -- Defect 5 of a block, and of another record, which has no range and no status
 
 module _ (s : List ℕ) (r : Layout) (y : LaidOut (length s) r) where
-  pub good-named : 18 < r .tag → goodBlock (recordOn s r) ≡ true
+  good-named : 18 < r .tag → goodBlock (recordOn s r) ≡ true
   unfolding value valueFrom wellFormed
   good-named b =
       rw (no-block (r .tag) b, slice-empty (r .start) s, take-nil {A = ℕ} (widthOf (r .tag)), drop-nil {A = ℕ} (widthOf (r .tag)))
 
   module _ (b : r .tag ≤ 18) where
-    pub bad-status : 1 < getD s (r .end - 1) 0 → goodBlock (recordOn s r) ≡ false
+    bad-status : 1 < getD s (r .end - 1) 0 → goodBlock (recordOn s r) ≡ false
     bad-status h = rw (status-on s r y b, lt-leb _ 1 h)
 
-    pub block-is : getD s (r .end - 1) 0 ≤ 1
+    block-is : getD s (r .end - 1) 0 ≤ 1
         → goodBlock (recordOn s r) ≡ leb (numberIn s (r .start + 3) (widthOf (r .tag))) (numberIn s (r .start + 3 + widthOf (r .tag)) (widthOf (r .tag)))
     unfolding wellFormed
     block-is h = rw (status-on s r y b, le-leb _ 1 h) (ap wellFormed (range-on s r y b))
@@ -115,19 +115,27 @@ module _ (s : List ℕ) (p r : Layout) (stack : List ℕ) (depth : ℕ) where
     pub before : p .tag ≡ r .tag → LaidOut (length s) p
     before e = c .earlier (omega (arith, c .laid .known))
 
-    module _ (t : Bool) (e : t ≡ goodBlock (recordOn s r)) where
-      pub place-bad : t ≡ false → Bad 5 ≡ placeOn s p r stack depth
-      place-bad f = by-tests false _ _ (sym e ∙ f) refl refl
+    module _ (b : r .tag ≤ 18) where
+      pub place-status : 1 < getD s (r .end - 1) 0 → Bad 5 ≡ placeOn s p r stack depth
+      place-status h = by-tests false _ _ (bad-status s r (c .laid) b h) refl refl
 
-      module _ (f : t ≡ true) (b : r .tag ≤ 18) (x : Place) where
-        pub place-first : (p .tag ≡ r .tag → ⊥) → x ≡ cond (ltb (p .tag) (r .tag)) (Under 0) (Bad 6) → x ≡ placeOn s p r stack depth
-        place-first n g =
-            g ∙ by-tests true _ false (sym e ∙ f) (order-other s p r (c .laid .known) n) (rw (a-block (r .tag) (c .laid .known) b) (ne-eqb (p .tag) (r .tag) n))
+      module _ (h : getD s (r .end - 1) 0 ≤ 1) (t : Bool)
+          (e : t ≡ leb (numberIn s (r .start + 3) (widthOf (r .tag))) (numberIn s (r .start + 3 + widthOf (r .tag)) (widthOf (r .tag)))) where
+        good : goodBlock (recordOn s r) ≡ t
+        good = block-is s r (c .laid) b h ∙ sym e
 
-        pub place-next : p .tag ≡ r .tag
-            → x ≡ cond (sortsAfter (rangeIn s (p .start + 3) (widthOf (r .tag))) (rangeIn s (r .start + 3) (widthOf (r .tag))))
-            (nestOf s (widthOf (r .tag)) (r .start + 3) stack depth) (Bad 6)
-            → x ≡ placeOn s p r stack depth
-        place-next z g =
-            g ∙ by-tests true _ true (sym e ∙ f) (order-block s p r (c .laid .known) z (before z) (c .laid) b)
-            (rw (a-block (r .tag) (c .laid .known) b) (eq-eqb (p .tag) (r .tag) z))
+        pub place-range : t ≡ false → Bad 5 ≡ placeOn s p r stack depth
+        place-range f = by-tests false _ _ (good ∙ f) refl refl
+
+        module _ (f : t ≡ true) (x : Place) where
+          pub place-first : (p .tag ≡ r .tag → ⊥) → x ≡ cond (ltb (p .tag) (r .tag)) (Under 0) (Bad 6) → x ≡ placeOn s p r stack depth
+          place-first n g =
+              g ∙ by-tests true _ false (good ∙ f) (order-other s p r (c .laid .known) n) (rw (a-block (r .tag) (c .laid .known) b) (ne-eqb (p .tag) (r .tag) n))
+
+          pub place-next : p .tag ≡ r .tag
+              → x ≡ cond (sortsAfter (rangeIn s (p .start + 3) (widthOf (r .tag))) (rangeIn s (r .start + 3) (widthOf (r .tag))))
+              (nestOf s (widthOf (r .tag)) (r .start + 3) stack depth) (Bad 6)
+              → x ≡ placeOn s p r stack depth
+          place-next z g =
+              g ∙ by-tests true _ true (good ∙ f) (order-block s p r (c .laid .known) z (before z) (c .laid) b)
+              (rw (a-block (r .tag) (c .laid .known) b) (eq-eqb (p .tag) (r .tag) z))

@@ -3,11 +3,11 @@ use mathlib.Core.Path.{_≡_, refl, sym, _∙_, ap}
 use mathlib.Core.Bool.{Bool, true, false, cond, false≢true}
 use mathlib.Core.List.{List, [], _∷_, reverse}
 use Prim.Native.Nat.{ℕ, zero, suc, _+_, _-_, _≤_, _<_}
-use borrow.Author.Tests.{le-leb, lt-leb, ne-eqb, leb-true, eqb-true}
+use borrow.Author.Tests.{ne-eqb, leb-true, eqb-true}
 use lib.Dec.{leb, eqb}
 use native.Mathlib.Omega.{arith}
 use native.Mathlib.Nat.{le-refl}
-use lib.ListN.{length, take, set, length-reverse, length-set}
+use lib.ListN.{length, take, drop, set, length-reverse, length-set}
 use lib.Seq.{slice, length-slice, take-length, slice-empty}
 use Rattle.fields.specs.Field.{headOf}
 use Rattle.fields.specs.Place.{fieldAt, FieldInside, behind}
@@ -17,7 +17,7 @@ use Rattle.records.specs.Judge.{Judged, bad, good, inOrder, crossesAny}
 use Rattle.records.specs.Layout.{layoutOf, recordOn, LaidOut}
 use Rattle.records.specs.declared.Layout.{Layout}
 use Rattle.records.proofs.Accepted.{first-last, After, follows-after}
-use Rattle.image.specs.Image.{sound, defective, refused, taken, afterJudged, nextOf, afterNext, imageFrom, imageOf, startsRight}
+use Rattle.image.specs.Image.{Image, sound, defective, refused, taken, afterJudged, nextOf, afterNext, imageFrom, startsRight}
 use Rattle.image.specs.Place.{TakenAt, ReadAt, recordBefore, Coming, goodBlock, nestOn, placeOn, verdictOf}
 use Rattle.image.specs.declared.Reading.{Reading}
 use Rattle.image.specs.declared.Reading.the-variants.{Taken, Refused}
@@ -28,9 +28,9 @@ use Rattle.image.proofs.Readings.{read-head}
 use Rattle.image.proofs.Judged.{order-first, contents-on, judged-on}
 use Rattle.image.proofs.Stacks.{Open, open-none, Pushed, Stepped, stepped}
 
--- After `count` records, the last of which lies as `p` says, or has the tag 0 if there is none: what is left of the image decides,
+-- After `count` records, the last of which lies as `p` says, or has the tag 0 if there is none: what is left of the image decides on the whole,
 -- and the stack holds the open blocks.
-pub record Walked (s : List ℕ) (p : Layout) (stack : List ℕ) (depth count : ℕ) : Type 0 where
+pub record Walked (s : List ℕ) (whole : Image) (p : Layout) (stack : List ℕ) (depth count : ℕ) : Type 0 where
   pub earlier : List Record
   pub counted : length earlier ≡ count
   pub few : count ≤ 4096
@@ -41,11 +41,11 @@ pub record Walked (s : List ℕ) (p : Layout) (stack : List ℕ) (depth count : 
   pub size : length stack ≡ 4096
   pub shallow : depth ≤ count
   pub opened : Open s earlier (p .tag) (firstOf (recordOn s p)) stack depth
-  pub rest : imageFrom (4096 - count) earlier (slice (p .end) (length s) s) ≡ imageOf s
+  pub rest : imageFrom (4096 - count) earlier (slice (p .end) (length s) s) ≡ whole
 
 -- the next record, which lies as `q` says, can be read
-pub record Reached (s : List ℕ) (p : Layout) (stack : List ℕ) (depth count : ℕ) (q : Layout) : Type 0 where
-  pub walked : Walked s p stack depth count
+pub record Reached (s : List ℕ) (whole : Image) (p : Layout) (stack : List ℕ) (depth count : ℕ) (q : Layout) : Type 0 where
+  pub walked : Walked s whole p stack depth count
   pub more : p .end < length s
   pub few : count ≡ 4096 → ⊥
   pub here : TakenAt s (p .end) q
@@ -67,68 +67,57 @@ module _ (earlier : List Record) where
   from-next n [] h = absurd (omega arith)
   from-next n (b ∷ l) h = refl
 
-module _ (s : List ℕ) where
-  pub walk-long : 262144 < length s → Defective 1 0 ≡ verdictOf (imageOf s)
-  unfolding imageOf
-  walk-long h = rw (lt-leb _ _ h)
+pub walk-start : (s : List ℕ) (from : ℕ) → from ≤ length s → length s ≤ 262144 → (stack : List ℕ) → length stack ≡ 4096
+    → Walked s (imageFrom 4096 [] (drop from s)) (layoutOf 0 from from from) stack 0 0
+walk-start s from l h stack z = record {
+  earlier = [];
+  counted = refl;
+  few = omega arith;
+  inside = l;
+  short-enough = h;
+  prior = refl;
+  placed = λ y. absurd (omega (arith, y));
+  size = z;
+  shallow = omega arith;
+  opened = open-none s _ stack;
+  rest = rw (take-length s);
+}
 
-  module _ (h : length s ≤ 262144) where
-    pub walk-wrong : startsRight s ≡ false → Defective 2 0 ≡ verdictOf (imageOf s)
-    unfolding imageOf
-    walk-wrong e = rw (le-leb _ _ h, e)
-
-    pub walk-start : startsRight s ≡ true → 4 ≤ length s → (stack : List ℕ) → length stack ≡ 4096
-        → Walked s (layoutOf 0 4 4 4) stack 0 0
-    unfolding imageOf
-    walk-start e l stack z = record {
-      earlier = [];
-      counted = refl;
-      few = omega arith;
-      inside = l;
-      short-enough = h;
-      prior = refl;
-      placed = λ y. absurd (omega (arith, y));
-      size = z;
-      shallow = omega arith;
-      opened = open-none s _ stack;
-      rest = rw (le-leb _ _ h, e, take-length s);
-    }
-
-module _ (s : List ℕ) (p : Layout) (stack : List ℕ) (depth count : ℕ) (w : Walked s p stack depth count) where
-  pub walk-end : length s ≤ p .end → Sound count ≡ verdictOf (imageOf s)
+module _ (s : List ℕ) (whole : Image) (p : Layout) (stack : List ℕ) (depth count : ℕ) (w : Walked s whole p stack depth count) where
+  pub walk-end : length s ≤ p .end → Sound count ≡ verdictOf whole
   walk-end h =
       let e : p .end ≡ length s = omega (arith, w .inside) in
-      let f : imageFrom (4096 - count) (w .earlier) [] ≡ imageOf s = rw (e, slice-empty (length s) s) at (w .rest) in
+      let f : imageFrom (4096 - count) (w .earlier) [] ≡ whole = rw (e, slice-empty (length s) s) at (w .rest) in
       rw (← f, from-end (w .earlier) (4096 - count), length-reverse, w .counted)
 
   module _ (h : p .end < length s) where
     some-left : 0 < length (slice (p .end) (length s) s)
     some-left = rw (length-slice (p .end) (length s) s (le-refl _)) (omega arith)
 
-    pub walk-full : count ≡ 4096 → Defective 3 4096 ≡ verdictOf (imageOf s)
+    pub walk-full : count ≡ 4096 → Defective 3 4096 ≡ verdictOf whole
     walk-full e =
         let z : 4096 - count ≡ 0 = omega arith in
         rw (← w .rest, z, from-full (w .earlier) (slice (p .end) (length s) s) some-left, w .counted, e)
 
     module _ (k : count ≡ 4096 → ⊥) where
-      one-step : afterNext (w .earlier) (nextOf (w .earlier) (headOf (slice (p .end) (length s) s))) (λ x rest. imageFrom (4096 - (count + 1)) (x ∷ w .earlier) rest) ≡ imageOf s
+      one-step : afterNext (w .earlier) (nextOf (w .earlier) (headOf (slice (p .end) (length s) s))) (λ x rest. imageFrom (4096 - (count + 1)) (x ∷ w .earlier) rest) ≡ whole
       one-step =
           let z : 4096 - count ≡ suc (4096 - (count + 1)) = omega (arith, w .few, k) in
           rw (← from-next (w .earlier) (4096 - (count + 1)) (slice (p .end) (length s) s) some-left, ← z) (w .rest)
 
-      refused-here : (d : ℕ) → nextOf (w .earlier) (headOf (slice (p .end) (length s) s)) ≡ refused d → Defective d count ≡ verdictOf (imageOf s)
-      refused-here d e = let f : defective d (length (w .earlier)) ≡ imageOf s = rw e at one-step in rw (← f, w .counted)
+      refused-here : (d : ℕ) → nextOf (w .earlier) (headOf (slice (p .end) (length s) s)) ≡ refused d → Defective d count ≡ verdictOf whole
+      refused-here d e = let f : defective d (length (w .earlier)) ≡ whole = rw e at one-step in rw (← f, w .counted)
 
       module _ (r : Reading) (m : ReadAt s (p .end) r) where
-        pub walk-refused : (d : ℕ) → r ≡ Refused d → Defective d count ≡ verdictOf (imageOf s)
+        pub walk-refused : (d : ℕ) → r ≡ Refused d → Defective d count ≡ verdictOf whole
         walk-refused d e =
             let f : ReadAt s (p .end) (Refused d) = rw e at m in
             refused-here d (f (w .earlier))
 
-        pub walk-taken : (q : Layout) → r ≡ Taken q → Reached s p stack depth count q
+        pub walk-taken : (q : Layout) → r ≡ Taken q → Reached s whole p stack depth count q
         walk-taken q e = record { walked = w; more = h; few = k; here = (rw e at m) }
 
-module _ {s : List ℕ} {p : Layout} {stack : List ℕ} {depth count : ℕ} {q : Layout} (c : Reached s p stack depth count q) where
+module _ {s : List ℕ} {whole : Image} {p : Layout} {stack : List ℕ} {depth count : ℕ} {q : Layout} (c : Reached s whole p stack depth count q) where
   abbrev earlier : List Record
   earlier = c .walked .earlier
 
@@ -194,10 +183,10 @@ module _ {s : List ℕ} {p : Layout} {stack : List ℕ} {depth count : ℕ} {q :
       by-tests false u x y = next-is false u _ x y refl
 
   module _ (n : Place) (g : n ≡ placeOn s p q stack depth) where
-    pub walk-bad : (d : ℕ) → n ≡ Bad d → Defective d count ≡ verdictOf (imageOf s)
+    pub walk-bad : (d : ℕ) → n ≡ Bad d → Defective d count ≡ verdictOf whole
     walk-bad d f =
         let o : Outcome (Bad d) = rw (← g, f) at outcome in
-        refused-here s p stack depth count (c .walked) (c .more) (c .few) d o
+        refused-here s whole p stack depth count (c .walked) (c .more) (c .few) d o
 
     module _ (u : ℕ) (f : n ≡ Under u) where
       under : Outcome (Under u)
@@ -206,7 +195,7 @@ module _ {s : List ℕ} {p : Layout} {stack : List ℕ} {depth count : ℕ} {q :
       pub room : u < 4096
       room = omega (arith, under .1, c .walked .shallow, c .walked .few, c .few)
 
-      pub walk-good : Walked s q (set stack u (q .start + 3)) (u + 1) (count + 1)
+      pub walk-good : Walked s whole q (set stack u (q .start + 3)) (u + 1) (count + 1)
       walk-good = record {
         earlier = recordOn s q ∷ earlier;
         counted = rw (c .walked .counted) (omega arith);
@@ -218,7 +207,7 @@ module _ {s : List ℕ} {p : Layout} {stack : List ℕ} {depth count : ℕ} {q :
         size = length-set stack u (q .start + 3) ∙ c .walked .size;
         shallow = omega (arith, under .1, c .walked .shallow);
         opened = under .2 .now-open;
-        rest = (rw (under .0) at (one-step s p stack depth count (c .walked) (c .more) (c .few)));
+        rest = (rw (under .0) at (one-step s whole p stack depth count (c .walked) (c .more) (c .few)));
       }
 
 pub start-length : (s : List ℕ) → startsRight s ≡ true → 4 ≤ length s

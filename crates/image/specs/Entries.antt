@@ -1,7 +1,7 @@
 -- Serves contracts and proofs. The records of a sound image by their numbers: where each stands, and where its range, handle and name are,
 -- which `SpanIsPart` ties to the calls that hand back a part (S2.2, S2.7).
 use mathlib.Core.Bool.{cond}
-use mathlib.Core.Path.{_≡_, refl}
+use mathlib.Core.Path.{_≡_}
 use mathlib.Core.List.{List}
 use Prim.Native.Nat.{ℕ}
 use lib.Dec.{ltb}
@@ -20,10 +20,6 @@ use Rattle.image.specs.declared.Which.the-variants.{Range, Handle, Name}
 -- where record i stands: i fields after the start of four bytes
 unfoldable pub placeOf : List ℕ → ℕ → ℕ
 placeOf s i = passed s i 4 (length s)
-
-pub place-start : (s : List ℕ) → 4 ≡ placeOf s 0
-unfolding placeOf passed
-place-start s = refl
 
 -- a part of the record that a field is; 0 and 0 if it is none
 abbrev pub contentsIn : Which → List ℕ → Field → Span

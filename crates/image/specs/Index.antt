@@ -1,16 +1,16 @@
 -- Serves contracts and proofs. The records of a sound image by their numbers, found by an index of where each starts.
 use mathlib.Core.Bool.{true}
 use mathlib.Core.Path.{_≡_}
-use mathlib.Core.List.{List, _∷_}
+use mathlib.Core.List.{List, [], _∷_}
 use Prim.Native.Nat.{ℕ, _+_, _*_, _≤_, _<_}
 use lib.ListN.{length, drop, getD}
 use lib.Seq.{slice}
 use Rattle.address.specs.Address.{numbers, rangeAt}
 use Rattle.records.specs.Record.{Record, widthOf, rangeOf, goodContents}
-use Rattle.fields.specs.Place.{fieldAt}
+use Rattle.fields.specs.Place.{fieldAt, passed}
 use Rattle.fields.specs.declared.Field.the-variants.{Whole}
 use Rattle.records.specs.Place.{bytesOf, Inside}
-use Rattle.image.specs.Image.{imageOf}
+use Rattle.image.specs.Image.{imageFrom, imageOf}
 use Rattle.image.specs.Part.{recordsOf, contentsOf}
 use Rattle.image.specs.Entries.{placeOf, contentsSpan}
 use Rattle.image.specs.Place.{verdictOf}
@@ -45,6 +45,12 @@ pub record Indexed (s : List ℕ) (count : ℕ) (places : List ℕ) : Type 0 whe
   pub sound : verdictOf (imageOf s) ≡ Sound count
   pub full : length places ≡ 4096
   pub place : (i : ℕ) → i < count → getD places i 0 ≡ placeOf s i
+
+-- what the pass over the records from a position on promises: the verdict on these, and where each starts
+pub record Walking (s : List ℕ) (from : ℕ) (places : List ℕ) (r : Verdict) : Type 0 where
+  pub verdict : r ≡ verdictOf (imageFrom 4096 [] (drop from s))
+  pub full : length places ≡ 4096
+  pub place : (count : ℕ) → r ≡ Sound count → (i : ℕ) → i < count → getD places i 0 ≡ passed s i from (length s)
 
 -- what the index promises: the verdict, and of a sound image where its records start
 pub record Indexing (s places : List ℕ) (r : Verdict) : Type 0 where

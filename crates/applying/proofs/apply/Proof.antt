@@ -22,7 +22,7 @@ loop-holds : tie.Need-loop-holds Inv-loop μ-loop
 loop-holds c = let a = c .before .before in reach-start _ _ _ _ (a .pre .0) (a .pre .1) (a .pre .3)
 
 change-at-requires : tie.Need-change-at-requires Inv-loop μ-loop
-change-at-requires c κs = c .before .loop .inv .inside
+change-at-requires c κs = (c .before .loop .inv .inside, c .before .before .before .before .pre .2)
 
 enum-known-start : tie.Need-enum-known-start Inv-loop μ-loop
 enum-known-start c = search needs

@@ -3,10 +3,11 @@ use borrow.Author.Needs.{needs}
 use mathlib.Core.List.{List}
 use Prim.Native.Nat.{ℕ, _-_}
 use native.Mathlib.Omega.{arith}
+use denote.Ref.{now}
 use Rattle.fields.specs.Slices.{part-slice}
 use Rattle.applying.specs.Steps.{Addition, Removal}
 use Rattle.merged.proofs.Fields.{bytes-inside}
-use Rattle.applying.proofs.Changes.{change-short, change-other, change-add, change-no-record, change-remove, change-no-key}
+use Rattle.applying.proofs.Changes.{part-short, change-short, change-other, change-add, change-no-record, change-remove, change-no-key}
 use mathlib.Core.Path.{subst}
 use Rattle.applying.proofs.change_at.Statement.{statement}
 use Rattle.applying.proofs.change_at.Tie as tie
@@ -21,7 +22,7 @@ enum-told : tie.Need-enum-told
 enum-told c = search needs
 
 returns : tie.Need-returns
-returns c = change-short _ _ (c .before .before .before .before .pre) _ (c .before .before .step-at .ensures) (c .enum-told .given .1)
+returns c = change-short _ _ (c .before .before .before .before .pre .0) _ (c .before .before .step-at .ensures) (c .enum-told .given .1)
 
 sub-good-record : tie.Need-sub-good-record
 sub-good-record c = let k = c .before in let i = bytes-inside _ _ _ (k .before .before .before .step-at .ensures) _ _ _ (k .before .tag .given .1) in omega (arith, i .forward)
@@ -33,17 +34,20 @@ part-good-record-end : tie.Need-part-good-record-end
 part-good-record-end c = let k = c .before in let i = bytes-inside _ _ _ (k .before .before .before .step-at .ensures) _ _ _ (k .before .tag .given .1) in omega (arith, i .within)
 
 good-record-requires : tie.Need-good-record-requires
-good-record-requires c κs = search needs
+good-record-requires c κs =
+    let a = c .before .before .before .before .before .before .before in
+    let f = c .before .before .before .tag .given .0 in
+    part-short (now (a .args .changes)) (f .1 .0) (f .1 .1 .0 - f .1 .0) (a .pre .1)
 
 returns-2 : tie.Need-returns-2
 returns-2 c =
     let k = c .before .before .before .before in
-    change-add _ _ (k .before .before .before .before .before .pre) _ (k .before .before .before .step-at .ensures) _ _ _ (k .before .tag .given .1) (c .before .before .before .if1 .taken) _ (subst (λ (x : List ℕ). Addition x (c .before .good-record .result)) (part-slice _ _ _ (bytes-inside _ _ _ (k .before .before .before .step-at .ensures) _ _ _ (k .before .tag .given .1) .forward)) (c .before .good-record .ensures)) (c .if2 .taken)
+    change-add _ _ (k .before .before .before .before .before .pre .0) _ (k .before .before .before .step-at .ensures) _ _ _ (k .before .tag .given .1) (c .before .before .before .if1 .taken) _ (subst (λ (x : List ℕ). Addition x (c .before .good-record .result)) (part-slice _ _ _ (bytes-inside _ _ _ (k .before .before .before .step-at .ensures) _ _ _ (k .before .tag .given .1) .forward)) (c .before .good-record .ensures)) (c .if2 .taken)
 
 returns-3 : tie.Need-returns-3
 returns-3 c =
     let k = c .before .before .before .before in
-    change-no-record _ _ (k .before .before .before .before .before .pre) _ (k .before .before .before .step-at .ensures) _ _ _ (k .before .tag .given .1) (c .before .before .before .if1 .taken) _ (subst (λ (x : List ℕ). Addition x (c .before .good-record .result)) (part-slice _ _ _ (bytes-inside _ _ _ (k .before .before .before .step-at .ensures) _ _ _ (k .before .tag .given .1) .forward)) (c .before .good-record .ensures)) (c .if2 .left)
+    change-no-record _ _ (k .before .before .before .before .before .pre .0) _ (k .before .before .before .step-at .ensures) _ _ _ (k .before .tag .given .1) (c .before .before .before .if1 .taken) _ (subst (λ (x : List ℕ). Addition x (c .before .good-record .result)) (part-slice _ _ _ (bytes-inside _ _ _ (k .before .before .before .step-at .ensures) _ _ _ (k .before .tag .given .1) .forward)) (c .before .good-record .ensures)) (c .if2 .left)
 
 sub-good-removal : tie.Need-sub-good-removal
 sub-good-removal c = let k = c .before .before in let i = bytes-inside _ _ _ (k .before .before .before .step-at .ensures) _ _ _ (k .before .tag .given .1) in omega (arith, i .forward)
@@ -60,17 +64,17 @@ good-removal-requires c κs = search needs
 returns-4 : tie.Need-returns-4
 returns-4 c =
     let k = c .before .before .before .before .before in
-    change-remove _ _ (k .before .before .before .before .before .pre) _ (k .before .before .before .step-at .ensures) _ _ _ (k .before .tag .given .1) (c .before .before .before .before .if1 .left) (c .before .before .before .if3 .taken) _ (subst (λ (x : List ℕ). Removal x (c .before .good-removal .result)) (part-slice _ _ _ (bytes-inside _ _ _ (k .before .before .before .step-at .ensures) _ _ _ (k .before .tag .given .1) .forward)) (c .before .good-removal .ensures)) (c .if4 .taken)
+    change-remove _ _ (k .before .before .before .before .before .pre .0) _ (k .before .before .before .step-at .ensures) _ _ _ (k .before .tag .given .1) (c .before .before .before .before .if1 .left) (c .before .before .before .if3 .taken) _ (subst (λ (x : List ℕ). Removal x (c .before .good-removal .result)) (part-slice _ _ _ (bytes-inside _ _ _ (k .before .before .before .step-at .ensures) _ _ _ (k .before .tag .given .1) .forward)) (c .before .good-removal .ensures)) (c .if4 .taken)
 
 returns-5 : tie.Need-returns-5
 returns-5 c =
     let k = c .before .before .before .before .before in
-    change-no-key _ _ (k .before .before .before .before .before .pre) _ (k .before .before .before .step-at .ensures) _ _ _ (k .before .tag .given .1) (c .before .before .before .before .if1 .left) (c .before .before .before .if3 .taken) _ (subst (λ (x : List ℕ). Removal x (c .before .good-removal .result)) (part-slice _ _ _ (bytes-inside _ _ _ (k .before .before .before .step-at .ensures) _ _ _ (k .before .tag .given .1) .forward)) (c .before .good-removal .ensures)) (c .if4 .left)
+    change-no-key _ _ (k .before .before .before .before .before .pre .0) _ (k .before .before .before .step-at .ensures) _ _ _ (k .before .tag .given .1) (c .before .before .before .before .if1 .left) (c .before .before .before .if3 .taken) _ (subst (λ (x : List ℕ). Removal x (c .before .good-removal .result)) (part-slice _ _ _ (bytes-inside _ _ _ (k .before .before .before .step-at .ensures) _ _ _ (k .before .tag .given .1) .forward)) (c .before .good-removal .ensures)) (c .if4 .left)
 
 returns-6 : tie.Need-returns-6
 returns-6 c =
     let k = c .before .before in
-    change-other _ _ (k .before .before .before .before .before .pre) _ (k .before .before .before .step-at .ensures) _ _ _ (k .before .tag .given .1) (c .before .if1 .left) (c .if3 .left)
+    change-other _ _ (k .before .before .before .before .before .pre .0) _ (k .before .before .before .step-at .ensures) _ _ _ (k .before .tag .given .1) (c .before .if1 .left) (c .if3 .left)
 
 pub change-at-spec : {M : Type 1} → statement M
 change-at-spec =

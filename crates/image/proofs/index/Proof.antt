@@ -1,154 +1,28 @@
--- The loop: after each record the rest of the image decides and the stack stands for the earlier blocks (Walked in Walk.antt), and the places
--- are noted (Noted.antt).
-use mathlib.Core.Path.{_∙_, sym, refl}
-use Prim.Native.Nat.{_-_, _≤_, _<_}
+-- The length and the start, then the records (Noted.antt).
+use mathlib.Core.Path.{_∙_, sym}
 use borrow.Author.Tests.{not-true, not-false}
-use native.Mathlib.Omega.{arith}
-use lib.ListN.{length}
-use denote.Ref.{now}
-use Rattle.image.proofs.Walk.{Walked, Reached, walk-long, walk-wrong, walk-start, walk-end, walk-full, walk-refused, walk-taken, field-here, behind-here, coming, walk-bad, room, walk-good, start-length}
-use Rattle.image.proofs.Noted.{Noted, note-none, note-next, index-sound, index-defective}
+use Rattle.image.proofs.Walk.{start-length}
+use Rattle.image.proofs.Noted.{index-long, index-wrong, index-walked}
 use borrow.Author.Needs.{needs}
 use Rattle.image.proofs.index.Statement.{statement}
 use Rattle.image.proofs.index.Tie as tie
 
-abbrev Inv-loop : tie.InvT-loop
-Inv-loop image places₀ p₀ stack₀ depth₀ count₀ places p stack depth count = Walked image p stack depth count × Noted image places count (p .end)
+returns : tie.Need-returns
+returns c = index-long _ _ (c .if1 .taken)
 
-abbrev μ-loop : tie.MeasureT-loop
-μ-loop image places₀ p₀ stack₀ depth₀ count₀ places p stack depth count = length image - p .end
-
-returns : tie.Need-returns Inv-loop μ-loop
-returns c = index-defective _ _ _ _ (walk-long _ (c .if1 .taken))
-
-starts-right-requires : tie.Need-starts-right-requires Inv-loop μ-loop
+starts-right-requires : tie.Need-starts-right-requires
 starts-right-requires c κs = search needs
 
-returns-2 : tie.Need-returns-2 Inv-loop μ-loop
-returns-2 c = index-defective _ _ _ _ (walk-wrong _ (c .before .before .if1 .left) (sym (c .before .starts-right .ensures) ∙ not-true _ (c .if2 .taken)))
+returns-2 : tie.Need-returns-2
+returns-2 c = index-wrong _ _ (c .before .before .if1 .left) (sym (c .before .starts-right .ensures) ∙ not-true _ (c .if2 .taken))
 
-no-record-requires : tie.Need-no-record-requires Inv-loop μ-loop
-no-record-requires c κs = search needs
+index-from-requires : tie.Need-index-from-requires
+index-from-requires c κs =
+    (start-length _ (sym (c .before .before .starts-right .ensures) ∙ not-false _ (c .before .if2 .left)), c .before .before .before .if1 .left, c .before .before .before .before .before .pre)
 
-loop-holds : tie.Need-loop-holds Inv-loop μ-loop
-loop-holds c =
-    let e = sym (c .before .before .starts-right .ensures) ∙ not-false _ (c .before .if2 .left) in
-    rw (c .no-record .ensures)
-    (walk-start _ (c .before .before .before .if1 .left) e (start-length _ e) _ refl, note-none _ _ (c .before .before .before .before .before .pre))
-
-returns-3 : tie.Need-returns-3 Inv-loop μ-loop
-returns-3 c = index-defective _ _ _ _ (walk-full _ _ _ _ _ (c .before .before .before .loop .inv .0) (c .before .if3 .taken) (c .if4 .taken))
-
-record-at-requires : tie.Need-record-at-requires Inv-loop μ-loop
-record-at-requires c κs = search needs
-
-enum-known-r : tie.Need-enum-known-r Inv-loop μ-loop
-enum-known-r c = search needs
-
--- a record was read
-reached : (c : tie.After-known-told Inv-loop μ-loop) → Reached (now (c .before .before .before .before .before .before .before .before .before .before .before .before .before .args .image)) (c .before .before .before .before .before .before .before .loop .p) (c .before .before .before .before .before .before .before .loop .stack) (c .before .before .before .before .before .before .before .loop .depth) (c .before .before .before .before .before .before .before .loop .count) (c .before .r .given .0 .0)
-reached c = walk-taken _ _ _ _ _ (c .before .before .before .before .before .before .before .loop .inv .0) (c .before .before .before .before .before .if3 .taken) (c .before .before .before .before .if4 .left) _ (c .before .before .before .record-at .ensures) _ (c .before .r .given .1)
-
-find-place-requires : tie.Need-find-place-requires Inv-loop μ-loop
-find-place-requires c κs = coming (reached (c .before))
-
-enum-known-d : tie.Need-enum-known-d Inv-loop μ-loop
-enum-known-d c = search needs
-
-cast-places : tie.Need-cast-places Inv-loop μ-loop
-cast-places c = omega (arith, c .before .before .before .before .before .before .before .before .before .before .before .if3 .taken, c .before .before .before .before .before .before .before .before .before .before .before .before .before .loop .inv .0 .short-enough)
-
-cast-places-2 : tie.Need-cast-places-2 Inv-loop μ-loop
-cast-places-2 c = search needs
-
-mul-places : tie.Need-mul-places Inv-loop μ-loop
-mul-places c = search needs
-
-element-write-places : tie.Need-element-write-places Inv-loop μ-loop
-element-write-places c = search needs
-
--- the record starts in the image, and the place for it is in the stack
-starts : (c : tie.After-known-told Inv-loop μ-loop) → c .before .r .given .0 .0 .start ≤ 262144
-starts c = let i = field-here (reached c) in omega (arith, i .forward, i .within, c .before .before .before .before .before .before .before .loop .inv .0 .short-enough)
-
-fits : (c : tie.After-known-told2 Inv-loop μ-loop) → c .before .d .given .0 .0 < 4096
-fits c = room (reached (c .before .before .before .before .before)) _ (c .before .before .before .find-place .ensures) _ (c .before .d .given .1)
-
-add-stack : tie.Need-add-stack Inv-loop μ-loop
-add-stack c = omega (arith, starts (c .before .before .before .before .before .before .before))
-
-cast-stack : tie.Need-cast-stack Inv-loop μ-loop
-cast-stack c = omega (arith, starts (c .before .before .before .before .before .before .before))
-
-mul-stack : tie.Need-mul-stack Inv-loop μ-loop
-mul-stack c = omega (arith, fits (c .before .before))
-
-array-write-stack : tie.Need-array-write-stack Inv-loop μ-loop
-array-write-stack c = omega (arith, fits (c .before .before))
-
-add-depth : tie.Need-add-depth Inv-loop μ-loop
-add-depth c = omega (arith, fits (c .before .before))
-
-add-count : tie.Need-add-count Inv-loop μ-loop
-add-count c = search needs
-
-loop-less : tie.Need-loop-less Inv-loop μ-loop
-loop-less c =
-    let i = field-here (reached (c .before .before .before .before .before .before .before)) in
-    omega (arith, i .after, i .forward, i .within)
-
-loop-again : tie.Need-loop-again Inv-loop μ-loop
-loop-again c = (
-  walk-good (reached (c .before .before .before .before .before .before .before)) _ (c .before .before .before .before .before .find-place .ensures) _ (c .before .before .before .d .given .1),
-  note-next _ _ _ _ _ (c .before .before .before .before .before .before .before .before .before .before .before .before .before .before .loop .inv .1) (omega (arith, c .before .before .before .before .before .before .before .before .before .before .before .before .before .before .loop .inv .0 .few, c .before .before .before .before .before .before .before .before .before .before .before .if4 .left)) (behind-here (reached (c .before .before .before .before .before .before .before))),
-)
-
-enum-known-defect : tie.Need-enum-known-defect Inv-loop μ-loop
-enum-known-defect c = search needs
-
-returns-4 : tie.Need-returns-4 Inv-loop μ-loop
-returns-4 c = index-defective _ _ _ _ (walk-bad (reached (c .before .before .before .before .before)) _ (c .before .before .before .find-place .ensures) _ (c .before .defect .given .1))
-
-enum-known-defect-2 : tie.Need-enum-known-defect-2 Inv-loop μ-loop
-enum-known-defect-2 c = search needs
-
-returns-5 : tie.Need-returns-5 Inv-loop μ-loop
-returns-5 c =
-    index-defective _ _ _ _ (walk-refused _ _ _ _ _ (c .before .before .before .before .before .before .before .loop .inv .0) (c .before .before .before .before .before .if3 .taken) (c .before .before .before .before .if4 .left) _ (c .before .before .before .record-at .ensures) _ (c .before .defect2 .given .1))
-
-returns-6 : tie.Need-returns-6 Inv-loop μ-loop
-returns-6 c = index-sound _ _ _ _ (c .before .before .loop .inv .1) (walk-end _ _ _ _ _ (c .before .before .loop .inv .0) (c .if3 .left))
+returns-3 : tie.Need-returns-3
+returns-3 c =
+    index-walked _ _ (c .before .before .before .before .if1 .left) (sym (c .before .before .before .starts-right .ensures) ∙ not-false _ (c .before .before .if2 .left)) _ (c .index-from .ensures)
 
 pub index-spec : {M : Type 1} → statement M
-index-spec =
-    tie.close
-    (tie.spec
-    Inv-loop
-    μ-loop
-    returns
-    starts-right-requires
-    returns-2
-    no-record-requires
-    loop-holds
-    returns-3
-    record-at-requires
-    enum-known-r
-    find-place-requires
-    enum-known-d
-    cast-places
-    cast-places-2
-    mul-places
-    element-write-places
-    add-stack
-    cast-stack
-    mul-stack
-    array-write-stack
-    add-depth
-    add-count
-    loop-less
-    loop-again
-    enum-known-defect
-    returns-4
-    enum-known-defect-2
-    returns-5
-    returns-6)
+index-spec = tie.close (tie.spec returns starts-right-requires returns-2 index-from-requires returns-3)

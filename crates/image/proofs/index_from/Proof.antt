@@ -1,0 +1,143 @@
+-- The loop: after each record the rest of the image decides and the stack stands for the earlier blocks (Walked in Walk.antt), and the places
+-- are noted (Noted.antt).
+use mathlib.Core.Path.{refl}
+use mathlib.Core.List.{[]}
+use Prim.Native.Nat.{_-_, _≤_, _<_}
+use native.Mathlib.Omega.{arith}
+use lib.ListN.{length, drop}
+use denote.Ref.{now}
+use Rattle.image.specs.Image.{imageFrom}
+use Rattle.image.proofs.Walk.{Walked, Reached, walk-start, walk-end, walk-full, walk-refused, walk-taken, field-here, behind-here, coming, walk-bad, room, walk-good}
+use Rattle.image.proofs.Noted.{Noted, note-none, note-next, note-sound, note-defective}
+use borrow.Author.Needs.{needs}
+use Rattle.image.proofs.index_from.Statement.{statement}
+use Rattle.image.proofs.index_from.Tie as tie
+
+abbrev Inv-loop : tie.InvT-loop
+Inv-loop image from places₀ p₀ stack₀ depth₀ count₀ places p stack depth count =
+    Walked image (imageFrom 4096 [] (drop from image)) p stack depth count × Noted image from places count (p .end)
+
+abbrev μ-loop : tie.MeasureT-loop
+μ-loop image from places₀ p₀ stack₀ depth₀ count₀ places p stack depth count = length image - p .end
+
+no-record-requires : tie.Need-no-record-requires Inv-loop μ-loop
+no-record-requires c κs = search needs
+
+loop-holds : tie.Need-loop-holds Inv-loop μ-loop
+loop-holds c =
+    let a = c .before .before in
+    rw (c .no-record .ensures) (walk-start _ _ (a .pre .0) (a .pre .1) _ refl, note-none _ _ _ (a .pre .2))
+
+returns : tie.Need-returns Inv-loop μ-loop
+returns c = note-defective _ _ _ _ _ _ _ (c .before .before .before .loop .inv .1) (walk-full _ _ _ _ _ _ (c .before .before .before .loop .inv .0) (c .before .if1 .taken) (c .if2 .taken))
+
+record-at-requires : tie.Need-record-at-requires Inv-loop μ-loop
+record-at-requires c κs = search needs
+
+enum-known-r : tie.Need-enum-known-r Inv-loop μ-loop
+enum-known-r c = search needs
+
+-- a record was read
+reached : (c : tie.After-known-told Inv-loop μ-loop) → Reached (now (c .before .before .before .before .before .before .before .before .before .before .args .image)) (imageFrom 4096 [] (drop (c .before .before .before .before .before .before .before .before .before .before .args .from) (now (c .before .before .before .before .before .before .before .before .before .before .args .image)))) (c .before .before .before .before .before .before .before .loop .p) (c .before .before .before .before .before .before .before .loop .stack) (c .before .before .before .before .before .before .before .loop .depth) (c .before .before .before .before .before .before .before .loop .count) (c .before .r .given .0 .0)
+reached c = walk-taken _ _ _ _ _ _ (c .before .before .before .before .before .before .before .loop .inv .0) (c .before .before .before .before .before .if1 .taken) (c .before .before .before .before .if2 .left) _ (c .before .before .before .record-at .ensures) _ (c .before .r .given .1)
+
+find-place-requires : tie.Need-find-place-requires Inv-loop μ-loop
+find-place-requires c κs = coming (reached (c .before))
+
+enum-known-d : tie.Need-enum-known-d Inv-loop μ-loop
+enum-known-d c = search needs
+
+cast-places : tie.Need-cast-places Inv-loop μ-loop
+cast-places c = omega (arith, c .before .before .before .before .before .before .before .before .before .before .before .if1 .taken, c .before .before .before .before .before .before .before .before .before .before .before .before .before .loop .inv .0 .short-enough)
+
+cast-places-2 : tie.Need-cast-places-2 Inv-loop μ-loop
+cast-places-2 c = search needs
+
+mul-places : tie.Need-mul-places Inv-loop μ-loop
+mul-places c = search needs
+
+element-write-places : tie.Need-element-write-places Inv-loop μ-loop
+element-write-places c = search needs
+
+-- the record starts in the image, and the place for it is in the stack
+starts : (c : tie.After-known-told Inv-loop μ-loop) → c .before .r .given .0 .0 .start ≤ 262144
+starts c = let i = field-here (reached c) in omega (arith, i .forward, i .within, c .before .before .before .before .before .before .before .loop .inv .0 .short-enough)
+
+fits : (c : tie.After-known-told2 Inv-loop μ-loop) → c .before .d .given .0 .0 < 4096
+fits c = room (reached (c .before .before .before .before .before)) _ (c .before .before .before .find-place .ensures) _ (c .before .d .given .1)
+
+add-stack : tie.Need-add-stack Inv-loop μ-loop
+add-stack c = omega (arith, starts (c .before .before .before .before .before .before .before))
+
+cast-stack : tie.Need-cast-stack Inv-loop μ-loop
+cast-stack c = omega (arith, starts (c .before .before .before .before .before .before .before))
+
+mul-stack : tie.Need-mul-stack Inv-loop μ-loop
+mul-stack c = omega (arith, fits (c .before .before))
+
+array-write-stack : tie.Need-array-write-stack Inv-loop μ-loop
+array-write-stack c = omega (arith, fits (c .before .before))
+
+add-depth : tie.Need-add-depth Inv-loop μ-loop
+add-depth c = omega (arith, fits (c .before .before))
+
+add-count : tie.Need-add-count Inv-loop μ-loop
+add-count c = search needs
+
+loop-less : tie.Need-loop-less Inv-loop μ-loop
+loop-less c =
+    let i = field-here (reached (c .before .before .before .before .before .before .before)) in
+    omega (arith, i .after, i .forward, i .within)
+
+loop-again : tie.Need-loop-again Inv-loop μ-loop
+loop-again c = (
+  walk-good (reached (c .before .before .before .before .before .before .before)) _ (c .before .before .before .before .before .find-place .ensures) _ (c .before .before .before .d .given .1),
+  note-next _ _ _ _ _ _ (c .before .before .before .before .before .before .before .before .before .before .before .before .before .before .loop .inv .1) (omega (arith, c .before .before .before .before .before .before .before .before .before .before .before .before .before .before .loop .inv .0 .few, c .before .before .before .before .before .before .before .before .before .before .before .if2 .left)) (behind-here (reached (c .before .before .before .before .before .before .before))),
+)
+
+enum-known-defect : tie.Need-enum-known-defect Inv-loop μ-loop
+enum-known-defect c = search needs
+
+returns-2 : tie.Need-returns-2 Inv-loop μ-loop
+returns-2 c = note-defective _ _ _ _ _ _ _ (c .before .before .before .before .before .before .before .before .before .before .before .before .loop .inv .1) (walk-bad (reached (c .before .before .before .before .before)) _ (c .before .before .before .find-place .ensures) _ (c .before .defect .given .1))
+
+enum-known-defect-2 : tie.Need-enum-known-defect-2 Inv-loop μ-loop
+enum-known-defect-2 c = search needs
+
+returns-3 : tie.Need-returns-3 Inv-loop μ-loop
+returns-3 c =
+    note-defective _ _ _ _ _ _ _ (c .before .before .before .before .before .before .before .loop .inv .1) (walk-refused _ _ _ _ _ _ (c .before .before .before .before .before .before .before .loop .inv .0) (c .before .before .before .before .before .if1 .taken) (c .before .before .before .before .if2 .left) _ (c .before .before .before .record-at .ensures) _ (c .before .defect2 .given .1))
+
+returns-4 : tie.Need-returns-4 Inv-loop μ-loop
+returns-4 c = note-sound _ _ _ _ _ (c .before .before .loop .inv .1) (walk-end _ _ _ _ _ _ (c .before .before .loop .inv .0) (c .if1 .left))
+
+pub index-from-spec : {M : Type 1} → statement M
+index-from-spec =
+    tie.close
+    (tie.spec
+    Inv-loop
+    μ-loop
+    no-record-requires
+    loop-holds
+    returns
+    record-at-requires
+    enum-known-r
+    find-place-requires
+    enum-known-d
+    cast-places
+    cast-places-2
+    mul-places
+    element-write-places
+    add-stack
+    cast-stack
+    mul-stack
+    array-write-stack
+    add-depth
+    add-count
+    loop-less
+    loop-again
+    enum-known-defect
+    returns-2
+    enum-known-defect-2
+    returns-3
+    returns-4)
