@@ -20,13 +20,13 @@ use merged::rank;
 use merged::remove_at;
 use records::width_of;
 
-// Whether this is a whole record without defects 3, 4 and 5, and nothing after it: one record without a defect.
-fn good_record(r: &[u8]) -> bool
-    requires { ⌜ length (now r) ≤ 262144 ⌝ }
-    ensures { λ b. ⌜ Addition (now (r .entry)) b ⌝ }
+// Whether this is a whole record without defects 3, 4 and 5, and nothing after it: one record without a defect. The pass over it writes to the
+// places, which nobody reads.
+fn good_record(r: &[u8], places: &mut [u32; 4096]) -> bool
+    requires { ⌜ (length (now r) ≤ 262144) × (length (now places) ≡ 4096) ⌝ }
+    ensures { λ b. ⌜ Addition (now (r .entry)) b × (length (now (places .exit)) ≡ 4096) ⌝ }
 {
-    let mut places = [0u32; 4096];
-    match index_from(r, 0, &mut places) {
+    match index_from(r, 0, places) {
         Verdict::Sound(count) => count == 1,
         Verdict::Defective(_, _) => false,
     }
@@ -74,15 +74,15 @@ enum Change {
     Malformed,
 }
 
-fn change_at(changes: &[u8], at: usize) -> Change
-    requires { ⌜ (at ≤ length (now changes)) × (length (now changes) ≤ 65536) ⌝ }
-    ensures { λ r. ⌜ ChangeAt (now (changes .entry)) at r ⌝ }
+fn change_at(changes: &[u8], at: usize, places: &mut [u32; 4096]) -> Change
+    requires { ⌜ (at ≤ length (now changes)) × (length (now changes) ≤ 65536) × (length (now places) ≡ 4096) ⌝ }
+    ensures { λ r. ⌜ ChangeAt (now (changes .entry)) at r × (length (now (places .exit)) ≡ 4096) ⌝ }
 {
     let Field::Whole { tag, start, end } = step_at(changes, at) else {
         return Change::Malformed;
     };
     if tag == 0x30 {
-        if good_record(&changes[start..end]) {
+        if good_record(&changes[start..end], places) {
             return Change::Add { start, end };
         }
         return Change::Malformed;
@@ -159,8 +159,10 @@ pub fn apply<'a>(
     changes: &'a [u8],
     index: &mut [u32; 9600],
     count: usize,
+    places: &mut [u32; 4096],
 ) -> Applied
-    requires { ⌜ (length (now index) ≡ 9600) × (count ≤ 4096) × (length (now changes) ≤ 65536) × Held (now image) (now changes) (take count (now index)) ⌝ }
+    requires { ⌜ (length (now index) ≡ 9600) × (count ≤ 4096) × (length (now changes) ≤ 65536) × Held (now image) (now changes) (take count (now index))
+        × (length (now places) ≡ 4096) ⌝ }
     ensures { λ r. ⌜ AppliedTo (now (image .entry)) (now (changes .entry))
         (entriesAt (now (image .entry)) (now (changes .entry)) (take count (now (index .entry)))) (now (index .exit)) r
         × (length (now (index .exit)) ≡ 9600) ⌝ }
@@ -168,7 +170,7 @@ pub fn apply<'a>(
     let mut n = count;
     let mut at: usize = 0;
     while at < changes.len() {
-        match change_at(changes, at) {
+        match change_at(changes, at, places) {
             Change::Add { start, end } => {
                 if !add(image, changes, index, n, start, end) {
                     return Applied::RefusedAt(at);

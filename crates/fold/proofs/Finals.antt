@@ -12,8 +12,10 @@ use Rattle.records.specs.Record.{Record}
 use Rattle.image.specs.Image.{Image, sound, defective, imageFrom, startsRight, imageOf}
 use Rattle.image.specs.Part.{recordsOf}
 use Rattle.image.specs.Place.{verdictOf}
+use Rattle.image.specs.Index.{Indexed}
 use Rattle.image.specs.declared.Verdict.{Verdict}
 use Rattle.image.specs.declared.Verdict.the-variants.{Sound, Defective}
+use Rattle.image.proofs.Soundness.{is-sound}
 use Rattle.image.proofs.Walk.{from-end, from-full}
 use Rattle.rows.specs.Entry.{Entry, entriesOf, rowOf}
 use Rattle.rows.specs.Good.{AllGood, good-cons}
@@ -22,7 +24,8 @@ use Rattle.rows.proofs.Images.{length-of, image-of, entries-good}
 use Rattle.rows.proofs.Rows.{parsed-entries}
 use Rattle.rows.proofs.Ordering.{sound-ordered}
 use Rattle.merged.specs.Held.{entriesAt, Held}
-use Rattle.changes.specs.Change.{done, refusedAt, changesOf}
+use Rattle.merged.proofs.Rows.{index-entries}
+use Rattle.changes.specs.Change.{Changed, done, refusedAt, changesOf}
 use Rattle.changes.specs.Fold.{badImage, badChange, noRoom, fits, finished, afterChanges, foldOf}
 use Rattle.listing.specs.Writing.{Written}
 use Rattle.listing.proofs.Writing.{written-both}
@@ -141,9 +144,17 @@ module _ (image changes before : List ℕ) where
       fold-finished es e after r a = rw (by-sound (recordsOf (imageOf image)) s true (le-leb _ _ h), e) a
 
 -- the index of a sound image holds its records
-pub image-held : (image changes index : List ℕ) → imageOf image ≡ sound (recordsOf (imageOf image))
-    → entriesAt image changes index ≡ entriesOf (recordsOf (imageOf image)) (drop 4 image) → Held image changes index
-image-held image changes index s e = record {
-  good = rw e (entries-good image (recordsOf (imageOf image)) s);
-  ordered = rw (e, parsed-entries (recordsOf (imageOf image)) (drop 4 image)) (sound-ordered image (recordsOf (imageOf image)) s);
-}
+module _ (image changes places index : List ℕ) (count : ℕ) (x : Indexed image count places) (e : take count index ≡ take count places) where
+  before-changes : entriesAt image changes (take count index) ≡ entriesOf (recordsOf (imageOf image)) (drop 4 image)
+  before-changes = ap (entriesAt image changes) e ∙ index-entries image places count x changes
+
+  pub index-held : Held image changes (take count index)
+  index-held =
+      let s = is-sound (imageOf image) count (x .sound) in
+      record {
+        good = rw before-changes (entries-good image (recordsOf (imageOf image)) s);
+        ordered = rw (before-changes, parsed-entries (recordsOf (imageOf image)) (drop 4 image)) (sound-ordered image (recordsOf (imageOf image)) s);
+      }
+
+  pub from-index : (c : Changed) → changesOf (entriesAt image changes (take count index)) changes ≡ c → changesOf (entriesOf (recordsOf (imageOf image)) (drop 4 image)) changes ≡ c
+  from-index c f = ap (λ (es : List Entry). changesOf es changes) (sym before-changes) ∙ f

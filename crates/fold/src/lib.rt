@@ -6,6 +6,7 @@ ghost use Prim.Native.Nat.{_+_, _≤_};
 ghost use lib.ListN.{length, take};
 ghost use Rattle.image.specs.Image.{startsRight, imageOf};
 ghost use Rattle.image.specs.Place.{verdictOf};
+ghost use Rattle.image.specs.Index.{Indexed};
 ghost use Rattle.listing.specs.Writing.{Written};
 ghost use Rattle.rows.specs.Entry.{rowOf};
 ghost use Rattle.changes.specs.Fold.{badImage, badChange, foldOf};
@@ -16,9 +17,9 @@ use address::numbers_at_most;
 use applying::Applied;
 use applying::apply;
 use image::Verdict;
-use image::check;
+use image::index;
 use listing::put_bytes;
-use merged::places_of;
+use merged::note_places;
 use merged::record_at;
 use merged::size_of;
 use records::width_of;
@@ -225,17 +226,23 @@ fn finish<'a>(
     counted(0, (4 + rest) as u32)
 }
 
-// The changes applied to a sound image of so many records.
-fn fold_sound<'a>(image: &'a [u8], changes: &'a [u8], count: usize, out: &mut [u8]) -> Folded
-    requires { ⌜ verdictOf (imageOf (now image)) ≡ Verdict.Sound count ⌝ }
+// The changes applied to a sound image, whose index is handed in.
+fn fold_sound<'a>(
+    image: &'a [u8],
+    changes: &'a [u8],
+    places: &mut [u32; 4096],
+    count: usize,
+    out: &mut [u8],
+) -> Folded
+    requires { ⌜ Indexed (now image) count (now places) ⌝ }
     ensures { λ r. ⌜ Gives (foldOf (now (image .entry)) (now (changes .entry)) (length (now (out .entry)))) (now (out .entry)) (now (out .exit)) r ⌝ }
 {
     if 65536 < changes.len() {
         return bad_change(0);
     }
     let mut index = [0u32; 9600];
-    places_of(image, &mut index, count);
-    match apply(image, changes, &mut index, count) {
+    note_places(places, count, &mut index);
+    match apply(image, changes, &mut index, count, places) {
         Applied::RefusedAt(offset) => bad_change(offset as u32),
         Applied::Done(n) => finish(image, changes, &index, n, out),
     }
@@ -245,8 +252,9 @@ pub fn fold<'a>(image: &'a [u8], changes: &'a [u8], out: &mut [u8]) -> Folded
     ensures { λ r. ⌜ r ≡ foldedOf (foldOf (now (image .entry)) (now (changes .entry)) (length (now (out .entry)))) ⌝ }
     ensures { λ r. ⌜ now (out .exit) ≡ outAfter (foldOf (now (image .entry)) (now (changes .entry)) (length (now (out .entry)))) (now (out .entry)) ⌝ }
 {
-    match check(image) {
+    let mut places = [0u32; 4096];
+    match index(image, &mut places) {
         Verdict::Defective(defect, place) => bad_image(2, defect, place),
-        Verdict::Sound(count) => fold_sound(image, changes, count as usize, out),
+        Verdict::Sound(count) => fold_sound(image, changes, &mut places, count as usize, out),
     }
 }

@@ -1,20 +1,28 @@
 -- The rows of the places of an index, and the entries of an image by their places.
-use mathlib.Core.Path.{_≡_, refl, sym, _∙_, ap}
+use mathlib.Core.Path.{_≡_, refl, sym, _∙_, ap, subst}
 use mathlib.Core.Bool.{Bool, true, false, cond}
 use mathlib.Core.List.{List, [], _∷_, _++_, map, append-assoc, append-nil}
-use Prim.Native.Nat.{ℕ, suc, _+_, _-_, _≤_, _<_}
+use Prim.Native.Nat.{ℕ, zero, suc, _+_, _-_, _≤_, _<_}
 use native.Mathlib.Omega.{arith}
 use native.Mathlib.Numerals.{add-one}
 use borrow.Author.Tests.{lt-ltb}
 use lib.Dec.{ltb}
-use lib.ListN.{length, getD, take, drop, set, length-append, length-take, length-drop, take-append-drop, drop-of-length-le}
-use lib.Seq.{slice, take-suc, drop-cons, length-slice, take-suc-set, take-take, drop-drop, length-take-le}
+use lib.ListN.{length, getD, take, drop, length-append, length-take, length-drop, take-append-drop, drop-of-length-le}
+use lib.Seq.{slice, take-suc, drop-cons, length-slice, take-take, drop-drop, length-take-le}
 use Rattle.fields.specs.Field.{field, headOf, sizeOf}
-use Rattle.fields.specs.Place.{fieldAt}
+use Rattle.fields.specs.Place.{fieldAt, behind, passed}
 use Rattle.fields.specs.declared.Field.{Field}
 use Rattle.fields.specs.declared.Field.the-variants.{Whole, Short}
 use Rattle.records.specs.Record.{Record}
+use Rattle.image.specs.Image.{imageOf}
+use Rattle.image.specs.Part.{recordsOf}
+use Rattle.image.specs.Entries.{placeOf}
+use Rattle.image.specs.Index.{Indexed}
+use Rattle.image.proofs.Soundness.{is-sound, counted, opens, few-records, few-bytes}
+use Rattle.image.proofs.Walk.{start-length}
+use Rattle.image.proofs.Noted.{place-next}
 use Rattle.rows.specs.Entry.{Entry, entry, entriesOf, rowOf}
+use Rattle.rows.proofs.Images.{entries-good}
 use Rattle.rows.specs.Good.{GoodEntry, AllGood, good-cons}
 use Rattle.fields.proofs.Starts.{starts, no-field}
 use Rattle.merged.specs.Held.{fieldBytes, bytesAt, parsedFrom, entryOf, entriesAt}
@@ -90,23 +98,23 @@ field-here s at tag contents rest h e = by-field (fieldAt s at (length s)) refl
 
 -- The places of an image's records
 
-pub entry-again : (e : Entry) → GoodEntry e → entryOf (e .bytes) ≡ e
+entry-again : (e : Entry) → GoodEntry e → entryOf (e .bytes) ≡ e
 unfolding parsedFrom
 entry-again e k =
     let p : parsedFrom (e .bytes) ≡ e .parsed = rw (k .head, k .alone) in
     ap (λ (r : Record). entry r (e .bytes)) p
 
 -- after i records, which are noted, the next starts at `at`
-pub record Passed (image : List ℕ) (records : List Record) (index : List ℕ) (i at : ℕ) : Type 0 where
-  pub inside : at ≤ length image
-  pub good : AllGood (entriesOf (drop i records) (drop at image))
-  pub noted : (changes : List ℕ) → entriesAt image changes (take i index) ++ entriesOf (drop i records) (drop at image) ≡ entriesOf records (drop 4 image)
+record Passed (image : List ℕ) (records : List Record) (index : List ℕ) (i at : ℕ) : Type 0 where
+  inside : at ≤ length image
+  good : AllGood (entriesOf (drop i records) (drop at image))
+  noted : (changes : List ℕ) → entriesAt image changes (take i index) ++ entriesOf (drop i records) (drop at image) ≡ entriesOf records (drop 4 image)
 
-pub passed-start : (image : List ℕ) (records : List Record) (index : List ℕ) → 4 ≤ length image → AllGood (entriesOf records (drop 4 image)) → Passed image records index 0 4
+passed-start : (image : List ℕ) (records : List Record) (index : List ℕ) → 4 ≤ length image → AllGood (entriesOf records (drop 4 image)) → Passed image records index 0 4
 passed-start image records index h s = record { inside = h; good = s; noted = λ changes. refl }
 
 module _ (image : List ℕ) (records : List Record) (index : List ℕ) (i at : ℕ) (m : Passed image records index i at)
-    (h : i < length records) (k : i < length index) (small : length image ≤ 262144) where
+    (h : i < length records) (k : i < length index) (small : length image ≤ 262144) (p : getD index i 0 ≡ at) where
   abbrev r : Record
   r = getD records i (parsedFrom [])
 
@@ -123,66 +131,95 @@ module _ (image : List ℕ) (records : List Record) (index : List ℕ) (i at : �
   unfolding entriesOf
   entries-are = rw rest-is
 
-  first-stands : AllGood (here ∷ entriesOf (drop (suc i) records) (drop (sizeOf s) s)) → GoodEntry here
-  first-stands (good-cons x y) = x
+  first-good : AllGood (here ∷ entriesOf (drop (suc i) records) (drop (sizeOf s) s)) → GoodEntry here
+  first-good (good-cons x y) = x
 
-  others-stand : AllGood (here ∷ entriesOf (drop (suc i) records) (drop (sizeOf s) s)) → AllGood (entriesOf (drop (suc i) records) (drop (sizeOf s) s))
-  others-stand (good-cons x y) = y
+  others-good : AllGood (here ∷ entriesOf (drop (suc i) records) (drop (sizeOf s) s)) → AllGood (entriesOf (drop (suc i) records) (drop (sizeOf s) s))
+  others-good (good-cons x y) = y
 
-  stands : GoodEntry here
-  stands = first-stands (rw entries-are at (m .good))
+  is-good : GoodEntry here
+  is-good = first-good (rw entries-are at (m .good))
 
-  head-here : headOf s ≡ field (stands .tag) (stands .contents) (drop (sizeOf s) s)
+  head-here : headOf s ≡ field (is-good .tag) (is-good .contents) (drop (sizeOf s) s)
   head-here =
-      let x = starts (take (sizeOf s) s) (stands .tag) (stands .contents) [] (stands .head) .followed (drop (sizeOf s) s) in
+      let x = starts (take (sizeOf s) s) (is-good .tag) (is-good .contents) [] (is-good .head) .followed (drop (sizeOf s) s) in
       rw (take-append-drop (sizeOf s) s) at x
 
   bytes-here : fieldBytes image at ≡ take (sizeOf s) s
   bytes-here =
-      let x = starts s (stands .tag) (stands .contents) _ head-here in
-      field-here image at (stands .tag) (stands .contents) _ (m .inside) head-here ∙ rw (← x .size)
+      let x = starts s (is-good .tag) (is-good .contents) _ head-here in
+      field-here image at (is-good .tag) (is-good .contents) _ (m .inside) head-here ∙ rw (← x .size)
 
   long-here : at + sizeOf s ≤ length image
   long-here =
-      let x = starts s (stands .tag) (stands .contents) _ head-here in
+      let x = starts s (is-good .tag) (is-good .contents) _ head-here in
       omega (arith, x .size, x .long, length-drop at image, m .inside)
 
   size-here : length (fieldBytes image at) ≡ sizeOf s
   size-here = rw bytes-here (length-take-le (sizeOf s) s (omega (arith, long-here, length-drop at image)))
 
-  pub place-fits : at < 262144
+  place-fits : at < 262144
   place-fits =
-      let x = starts s (stands .tag) (stands .contents) _ head-here in
+      let x = starts s (is-good .tag) (is-good .contents) _ head-here in
       omega (arith, long-here, x .size)
 
   at-image : (changes : List ℕ) → bytesAt image changes at ≡ take (sizeOf s) s
   unfolding bytesAt
   at-image changes = rw (lt-ltb at 262144 place-fits) bytes-here
 
-  pub passed-next : (n : ℕ) → n ≡ length (fieldBytes image at) → Passed image records (set index i at) (i + 1) (at + n)
-  passed-next n e =
-      let z : n ≡ sizeOf s = e ∙ size-here in
-      let d : drop (at + n) image ≡ drop (sizeOf s) s = rw z (sym (drop-drop (sizeOf s) at image)) in
+  passed-next : Passed image records index (i + 1) (at + length (fieldBytes image at))
+  passed-next =
+      let d : drop (at + length (fieldBytes image at)) image ≡ drop (sizeOf s) s = rw size-here (sym (drop-drop (sizeOf s) at image)) in
       record {
-        inside = omega (arith, long-here, z);
-        good = rw (add-one i, d) (others-stand (rw entries-are at (m .good)));
-        noted = λ changes. noted-next changes n d;
+        inside = omega (arith, long-here, size-here);
+        good = rw (add-one i, d) (others-good (rw entries-are at (m .good)));
+        noted = λ changes. noted-next changes d;
       }
     where
-      noted-next : (changes : List ℕ) (n : ℕ) → drop (at + n) image ≡ drop (sizeOf s) s
-          → entriesAt image changes (take (i + 1) (set index i at)) ++ entriesOf (drop (i + 1) records) (drop (at + n) image) ≡ entriesOf records (drop 4 image)
-      noted-next changes n d =
+      noted-next : (changes : List ℕ) → drop (at + length (fieldBytes image at)) image ≡ drop (sizeOf s) s
+          → entriesAt image changes (take (i + 1) index) ++ entriesOf (drop (i + 1) records) (drop (at + length (fieldBytes image at)) image) ≡ entriesOf records (drop 4 image)
+      noted-next changes d =
           let b : bytesAt image changes at ≡ take (sizeOf s) s = at-image changes in
-          let q : entryOf (bytesAt image changes at) ≡ here = rw b (entry-again here stands) in
-          let t : entriesAt image changes (take (i + 1) (set index i at)) ≡ entriesAt image changes (take i index) ++ (here ∷ []) =
-          rw (add-one i, take-suc-set index i at k) (entries-append image changes (take i index) (at ∷ []) ∙ rw q) in
+          let q : entryOf (bytesAt image changes at) ≡ here = rw b (entry-again here is-good) in
+          let t : entriesAt image changes (take (i + 1) index) ≡ entriesAt image changes (take i index) ++ (here ∷ []) = entries-next image changes index i k ∙ rw (p, q) in
           rw (t, d, add-one i)
           (append-assoc (entriesAt image changes (take i index)) (here ∷ []) (entriesOf (drop (suc i) records) (drop (sizeOf s) s))
           ∙ rw (← entries-are) (m .noted changes))
 
-pub passed-end : (image : List ℕ) (records : List Record) (index : List ℕ) (i at : ℕ) → Passed image records index i at → length records ≤ i
+passed-end : (image : List ℕ) (records : List Record) (index : List ℕ) (i at : ℕ) → Passed image records index i at → length records ≤ i
     → (changes : List ℕ) → entriesAt image changes (take i index) ≡ entriesOf records (drop 4 image)
 unfolding entriesOf
 passed-end image records index i at m h changes =
     let z : drop i records ≡ [] = drop-of-length-le records {i = i} h in
     sym (append-nil (entriesAt image changes (take i index))) ∙ (rw z at (m .noted changes))
+
+-- the field behind the one at a position
+behind-bytes : (s : List ℕ) (at : ℕ) (f : Field) → f ≡ fieldAt s at (length s) → behind f at ≡ at + length (fieldBytes s at)
+behind-bytes s at Short e = rw (← bytes-short s at Short e refl) (omega arith)
+behind-bytes s at (Whole tag a b) e =
+    let i = bytes-inside s at (Whole tag a b) e tag a b refl in
+    rw (← bytes-whole s at (Whole tag a b) e tag a b refl) (omega (arith, i .after, i .forward, i .within, length-take (b - at) (drop at s), length-drop at s))
+
+-- the index of a sound image holds its records
+module _ (image places : List ℕ) (count : ℕ) (x : Indexed image count places) where
+  abbrev records : List Record
+  records = recordsOf (imageOf image)
+
+  first-place : placeOf image 0 ≡ 4
+  unfolding placeOf passed
+  first-place = refl
+
+  all-passed : (i : ℕ) → i ≤ count → Passed image records places i (placeOf image i)
+  all-passed zero h =
+      let e = is-sound (imageOf image) count (x .sound) in
+      rw first-place (passed-start image records places (start-length image (opens image records e .started)) (entries-good image records e))
+  all-passed (suc i) h =
+      let o : i + 1 ≡ suc i = omega arith in
+      let n : placeOf image i + length (fieldBytes image (placeOf image i)) ≡ placeOf image (i + 1) = sym (place-next image i ∙ behind-bytes image (placeOf image i) _ refl) in
+      let z = passed-next image records places i (placeOf image i) (all-passed i (omega arith)) (omega (arith, counted (imageOf image) count (x .sound)))
+      (omega (arith, x .full, few-records image count (x .sound))) (few-bytes image count (x .sound)) (x .place i h) in
+      subst (λ (j : ℕ). Passed image records places j (placeOf image j)) o (subst (λ (at : ℕ). Passed image records places (i + 1) at) n z)
+
+  pub index-entries : (changes : List ℕ) → entriesAt image changes (take count places) ≡ entriesOf records (drop 4 image)
+  index-entries changes =
+      passed-end image records places count (placeOf image count) (all-passed count (omega arith)) (omega (arith, counted (imageOf image) count (x .sound))) changes

@@ -1,20 +1,16 @@
 // The records of an image and those that a change file adds, by one index of places, in the order of their keys.
 ghost use mathlib.Core.Path.{_≡_};
-ghost use mathlib.Core.List.{List, _∷_, _++_};
-ghost use Prim.Native.Nat.{ℕ, _+_, _-_, _*_, _≤_, _<_};
+ghost use mathlib.Core.List.{_∷_, _++_};
+ghost use Prim.Native.Nat.{_+_, _-_, _*_, _≤_, _<_};
 ghost use lib.ListN.{length, take, drop};
 ghost use Rattle.records.specs.Record.{follows};
-ghost use Rattle.image.specs.Image.{imageOf};
-ghost use Rattle.image.specs.Part.{recordsOf};
-ghost use Rattle.image.specs.Place.{verdictOf};
-ghost use Rattle.rows.specs.Entry.{entriesOf, rowOf};
+ghost use Rattle.rows.specs.Entry.{rowOf};
 ghost use Rattle.changes.specs.Change.{keyed, isThere};
 ghost use Rattle.changes.specs.Rank.{rankOf};
 ghost use Rattle.merged.specs.Held.{fieldBytes, bytesAt, parsedFrom, entriesAt, Recorded, Held, bareKey, Key};
 use address::bytes_at_most;
 use fields::Field;
 use fields::step_at;
-use image::Verdict;
 use image::range_after;
 use records::handle_span;
 use records::name_span;
@@ -169,18 +165,14 @@ pub fn remove_at(index: &mut [u32; 9600], n: usize, at: usize)
     }
 }
 
-// The places of the records of a sound image.
-pub fn places_of(image: &[u8], index: &mut [u32; 9600], count: usize)
-    requires { ⌜ (length (now index) ≡ 9600) × (verdictOf (imageOf (now image)) ≡ Verdict.Sound count) ⌝ }
-    ensures { λ r. ⌜ ((changes : List ℕ) → entriesAt (now (image .entry)) changes (take count (now (index .exit)))
-        ≡ entriesOf (recordsOf (imageOf (now (image .entry)))) (drop 4 (now (image .entry))))
-        × (length (now (index .exit)) ≡ 9600) ⌝ }
+// The first places of the index of an image.
+pub fn note_places(places: &[u32; 4096], count: usize, index: &mut [u32; 9600])
+    requires { ⌜ (count ≤ 4096) × (length (now places) ≡ 4096) × (length (now index) ≡ 9600) ⌝ }
+    ensures { λ r. ⌜ (take count (now (index .exit)) ≡ take count (now (places .entry))) × (length (now (index .exit)) ≡ 9600) ⌝ }
 {
     let mut i: usize = 0;
-    let mut at: usize = 4;
     while i < count {
-        index[i] = at as u32;
-        at += field_bytes(image, at).len();
+        index[i] = places[i];
         i += 1;
     }
 }

@@ -1,5 +1,6 @@
 -- The changes before `at` are applied (Applying.antt).
 use borrow.Author.Needs.{needs}
+use mathlib.Core.Path.{_≡_}
 use Prim.Native.Nat.{_-_}
 use native.Mathlib.Omega.{arith}
 use lib.ListN.{length, take}
@@ -13,25 +14,28 @@ use Rattle.applying.proofs.apply.Statement.{statement}
 use Rattle.applying.proofs.apply.Tie as tie
 
 abbrev Inv-loop : tie.InvT-loop
-Inv-loop image changes index₀ count n₀ at₀ index n at = Reached image changes (entriesAt image changes (take count index₀)) index n at
+Inv-loop image changes index₀ count places₀ n₀ at₀ index places n at =
+    Reached image changes (entriesAt image changes (take count index₀)) index n at × (length places ≡ 4096)
 
 abbrev μ-loop : tie.MeasureT-loop
-μ-loop image changes index₀ count n₀ at₀ index n at = length changes - at
+μ-loop image changes index₀ count places₀ n₀ at₀ index places n at = length changes - at
 
 loop-holds : tie.Need-loop-holds Inv-loop μ-loop
-loop-holds c = let a = c .before .before in reach-start _ _ _ _ (a .pre .0) (a .pre .1) (a .pre .3)
+loop-holds c = let a = c .before .before in (reach-start _ _ _ _ (a .pre .0) (a .pre .1) (a .pre .3), a .pre .4)
 
 change-at-requires : tie.Need-change-at-requires Inv-loop μ-loop
-change-at-requires c κs = (c .before .loop .inv .inside, c .before .before .before .before .pre .2)
+change-at-requires c κs =
+    let m = c .before .before .loop .inv in
+    (m .0 .inside, c .before .before .before .before .before .pre .2, m .1)
 
 enum-known-start : tie.Need-enum-known-start Inv-loop μ-loop
 enum-known-start c = search needs
 
 abbrev inside : tie.After-start Inv-loop μ-loop → tie.In-loop Inv-loop μ-loop
-inside s = s .before .before .before
+inside s = s .before .before .before .before
 
 added : (s : tie.After-start Inv-loop μ-loop) → ChangeAt (now (inside s .before .before .before .before .args .changes)) (inside s .before .loop .at) (Add (s .start .given .0 .0) (s .start .given .0 .1 .0))
-added s = rw (s .start .given .1) at (s .before .before .change-at .ensures)
+added s = rw (s .start .given .1) at (s .before .before .change-at .ensures .0)
 
 add-requires : tie.Need-add-requires Inv-loop μ-loop
 add-requires c κs =
@@ -39,7 +43,7 @@ add-requires c κs =
     let s = k .before in
     let i = inside s in
     let a = i .before .before .before .before in
-    let m = i .before .loop .inv in
+    let m = i .before .loop .inv .0 in
     let x = added s in
     (m .full, room _ _ _ _ _ _ m (a .pre .2), x .0 .forward, x .0 .within, a .pre .2, m .held, x .1)
 
@@ -48,13 +52,13 @@ returns c =
     let s = c .before .before .before .before in
     let i = inside s in
     let a = i .before .before .before .before in
-    let m = i .before .loop .inv in
+    let m = i .before .loop .inv .0 in
     (reach-refused _ _ _ _ _ _ m (a .pre .2) _ _ _ (added s .0) (rw (not-true (c .before .add .result) (c .if1 .taken)) at (c .before .add .ensures .0)), c .before .add .ensures .1)
 
 add-n : tie.Need-add-n Inv-loop μ-loop
 add-n c =
     let i = inside (c .before .before .before .before) in
-    omega (arith, room _ _ _ _ _ _ (i .before .loop .inv) (i .before .before .before .before .pre .2))
+    omega (arith, room _ _ _ _ _ _ (i .before .loop .inv .0) (i .before .before .before .before .pre .2))
 
 loop-less : tie.Need-loop-less Inv-loop μ-loop
 loop-less c =
@@ -67,25 +71,25 @@ loop-again c =
     let s = c .before .before .before .before in
     let i = inside s in
     let a = i .before .before .before .before in
-    let m = i .before .loop .inv in
+    let m = i .before .loop .inv .0 in
     let x = added s in
-    reach-next _ _ _ _ _ _ m (a .pre .2) _ _ _ (x .0) _ _ (c .before .add .ensures .1) (rw (not-false (c .before .add .result) (c .if1 .left)) at (c .before .add .ensures .0)) (added-long _ _ _ _ _ _ m (a .pre .2) _ _ (x .0) (x .1))
+    (reach-next _ _ _ _ _ _ m (a .pre .2) _ _ _ (x .0) _ _ (c .before .add .ensures .1) (rw (not-false (c .before .add .result) (c .if1 .left)) at (c .before .add .ensures .0)) (added-long _ _ _ _ _ _ m (a .pre .2) _ _ (x .0) (x .1)), s .before .before .change-at .ensures .1)
 
 enum-known-start-2 : tie.Need-enum-known-start-2 Inv-loop μ-loop
 enum-known-start-2 c = search needs
 
 abbrev inside2 : tie.After-start2 Inv-loop μ-loop → tie.In-loop Inv-loop μ-loop
-inside2 s = s .before .before .before
+inside2 s = s .before .before .before .before
 
 removed : (s : tie.After-start2 Inv-loop μ-loop) → ChangeAt (now (inside2 s .before .before .before .before .args .changes)) (inside2 s .before .loop .at) (Remove (s .start2 .given .0 .0) (s .start2 .given .0 .1 .0))
-removed s = rw (s .start2 .given .1) at (s .before .before .change-at .ensures)
+removed s = rw (s .start2 .given .1) at (s .before .before .change-at .ensures .0)
 
 remove-requires : tie.Need-remove-requires Inv-loop μ-loop
 remove-requires c κs =
     let s = c .before .before in
     let i = inside2 s in
     let a = i .before .before .before .before in
-    let m = i .before .loop .inv in
+    let m = i .before .loop .inv .0 in
     let x = removed s in
     (m .full, omega (arith, room _ _ _ _ _ _ m (a .pre .2)), x .1, x .0 .within, m .held, x .2)
 
@@ -94,7 +98,7 @@ returns-2 c =
     let s = c .before .before .before .before in
     let i = inside2 s in
     let a = i .before .before .before .before in
-    let m = i .before .loop .inv in
+    let m = i .before .loop .inv .0 in
     (reach-refused _ _ _ _ _ _ m (a .pre .2) _ _ _ (removed s .0) (rw (not-true (c .before .remove .result) (c .if2 .taken)) at (c .before .remove .ensures .0)), c .before .remove .ensures .2)
 
 sub-n : tie.Need-sub-n Inv-loop μ-loop
@@ -111,24 +115,24 @@ loop-again-2 c =
     let s = c .before .before .before .before in
     let i = inside2 s in
     let a = i .before .before .before .before in
-    let m = i .before .loop .inv in
+    let m = i .before .loop .inv .0 in
     let x = removed s .0 in
-    reach-next _ _ _ _ _ _ m (a .pre .2) _ _ _ x _ _ (c .before .remove .ensures .2) (rw (not-false (c .before .remove .result) (c .if2 .left)) at (c .before .remove .ensures .0)) (omega (arith, m .few, x .after, x .forward))
+    (reach-next _ _ _ _ _ _ m (a .pre .2) _ _ _ x _ _ (c .before .remove .ensures .2) (rw (not-false (c .before .remove .result) (c .if2 .left)) at (c .before .remove .ensures .0)) (omega (arith, m .few, x .after, x .forward)), s .before .before .change-at .ensures .1)
 
 enum-told : tie.Need-enum-told Inv-loop μ-loop
 enum-told c = search needs
 
 returns-3 : tie.Need-returns-3 Inv-loop μ-loop
 returns-3 c =
-    let i = c .before .before .before in
+    let i = c .before .before .before .before in
     let a = i .before .before .before .before in
-    let m = i .before .loop .inv in
-    (reach-malformed _ _ _ _ _ _ m (a .pre .2) (i .loop-test .taken) (rw (c .enum-told .given .1) at (c .before .before .change-at .ensures)), m .full)
+    let m = i .before .loop .inv .0 in
+    (reach-malformed _ _ _ _ _ _ m (a .pre .2) (i .loop-test .taken) (rw (c .enum-told .given .1) at (c .before .before .change-at .ensures .0)), m .full)
 
 returns-4 : tie.Need-returns-4 Inv-loop μ-loop
 returns-4 c =
     let a = c .before .before .before .before in
-    let m = c .before .loop .inv in
+    let m = c .before .loop .inv .0 in
     (reach-end _ _ _ _ _ _ m (a .pre .2) (c .loop-test .left), m .full)
 
 pub apply-spec : {M : Type 1} → statement M

@@ -14,10 +14,14 @@ enum-told : tie.Need-enum-told
 enum-told c = search needs
 
 returns : tie.Need-returns
-returns c = add-counted _ _ (c .before .before .before .index-from .ensures .verdict) _ (c .before .count .given .1)
+returns c =
+    let w = c .before .before .before .index-from .ensures in
+    (add-counted _ _ (w .verdict) _ (c .before .count .given .1), w .full)
 
 returns-2 : tie.Need-returns-2
-returns-2 c = add-defective _ _ (c .before .before .index-from .ensures .verdict) _ _ (c .enum-told .given .1)
+returns-2 c =
+    let w = c .before .before .index-from .ensures in
+    (add-defective _ _ (w .verdict) _ _ (c .enum-told .given .1), w .full)
 
 pub good-record-spec : {M : Type 1} → statement M
 good-record-spec = tie.close (tie.spec index-from-requires enum-known-count enum-told returns returns-2)

@@ -1,13 +1,12 @@
 -- The verdict on the image, then the changes (Finals.antt).
 use borrow.Author.Needs.{needs}
-use mathlib.Core.Path.{sym, _∙_}
 use Prim.Native.Nat.{_-_}
 use Rattle.fold.proofs.Finals.{fold-defective}
 use Rattle.fold.proofs.fold.Statement.{statement}
 use Rattle.fold.proofs.fold.Tie as tie
 
-check-requires : tie.Need-check-requires
-check-requires c κs = search needs
+index-requires : tie.Need-index-requires
+index-requires c κs = search needs
 
 enum-known-defect : tie.Need-enum-known-defect
 enum-known-defect c = search needs
@@ -23,12 +22,12 @@ cast-fold-sound c = search needs
 
 fold-sound-requires : tie.Need-fold-sound-requires
 fold-sound-requires c κs =
-    let k = c .before .before in
-    sym (k .before .before .check .ensures) ∙ k .count .given .1
+    let k = c .before .before .before in
+    k .before .before .index .ensures .indexed _ (k .count .given .1)
 
 returns : tie.Need-returns
 returns c =
-    let x = fold-defective _ _ _ _ (c .before .before .before .before .check .ensures) _ _ (c .before .before .defect .given .1) _ (c .bad-image .ensures) in
+    let x = fold-defective _ _ _ _ (c .before .before .before .before .index .ensures .verdict) _ _ (c .before .before .defect .given .1) _ (c .bad-image .ensures) in
     (x .numbers, x .out)
 
 same-length : tie.Need-same-length
@@ -41,7 +40,7 @@ pub fold-spec : {M : Type 1} → statement M
 fold-spec =
     tie.close
     (tie.spec
-    check-requires
+    index-requires
     enum-known-defect
     bad-image-requires
     enum-known-count
