@@ -81,7 +81,7 @@ sound-or : (i : Image) (out : List ℕ) (room : ℕ) → ((d p : ℕ) → i ≡ 
 sound-or (sound records) out room h = refl
 sound-or (defective d p) out room h = absurd (h d p refl)
 
-verdict-bad : (i : Image) (v : Verdict) (d p : ℕ) → v ≡ verdictOf i → v ≡ Defective d p → i ≡ defective d p
+pub verdict-bad : (i : Image) (v : Verdict) (d p : ℕ) → v ≡ verdictOf i → v ≡ Defective d p → i ≡ defective d p
 verdict-bad (sound records) v d p e f = let z : _≡_ {A = ℕ} 0 1 = cc in absurd (omega arith)
 verdict-bad (defective a b) v d p e f = cc
 

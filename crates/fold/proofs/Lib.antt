@@ -1,3 +1,4 @@
 pub mod Nests
 pub mod Scans
 pub mod Finals
+pub mod Numbered

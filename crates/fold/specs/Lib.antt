@@ -1,2 +1,3 @@
 pub mod Overlaps
 pub mod Call
+pub mod Final

@@ -12,6 +12,7 @@ ghost use Rattle.rows.specs.Entry.{rowOf};
 ghost use Rattle.changes.specs.Fold.{badImage, badChange, foldOf};
 ghost use Rattle.merged.specs.Held.{parsedFrom, entriesAt, Recorded, Held};
 ghost use Rattle.fold.specs.Overlaps.{OpenBlocks, NestedIn, PlacedIn, Overlaps};
+ghost use Rattle.fold.specs.Final.{finalRecord};
 ghost use Rattle.fold.specs.Call.{foldedOf, outAfter, counting, Gives, Finished};
 use address::numbers_at_most;
 use applying::Applied;
@@ -256,5 +257,43 @@ pub fn fold<'a>(image: &'a [u8], changes: &'a [u8], out: &mut [u8]) -> Folded
     match index(image, &mut places) {
         Verdict::Defective(defect, place) => bad_image(2, defect, place),
         Verdict::Sound(count) => fold_sound(image, changes, &mut places, count as usize, out),
+    }
+}
+
+// A record of the final list by its number: its bytes, none where there is no such record. The image is sound, and its index is handed in.
+fn record_after<'a>(
+    image: &'a [u8],
+    changes: &'a [u8],
+    places: &mut [u32; 4096],
+    count: usize,
+    number: usize,
+) -> &'a [u8]
+    requires { ⌜ Indexed (now image) count (now places) ⌝ }
+    ensures { λ r. ⌜ now r ≡ finalRecord (now (image .entry)) (now (changes .entry)) number ⌝ }
+{
+    if 65536 < changes.len() {
+        return &image[0..0];
+    }
+    let mut index = [0u32; 9600];
+    note_places(places, count, &mut index);
+    match apply(image, changes, &mut index, count, places) {
+        Applied::RefusedAt(_) => &image[0..0],
+        Applied::Done(n) => {
+            if n <= number {
+                return &image[0..0];
+            }
+            record_at(image, changes, index[number])
+        }
+    }
+}
+
+// The same of any image: none where it is defective, or a change is at fault.
+pub fn final_record<'a>(image: &'a [u8], changes: &'a [u8], number: usize) -> &'a [u8]
+    ensures { λ r. ⌜ now r ≡ finalRecord (now (image .entry)) (now (changes .entry)) number ⌝ }
+{
+    let mut places = [0u32; 4096];
+    match index(image, &mut places) {
+        Verdict::Defective(_, _) => &image[0..0],
+        Verdict::Sound(count) => record_after(image, changes, &mut places, count as usize, number),
     }
 }
