@@ -17,6 +17,7 @@ use Rattle.fields.specs.declared.Field.the-variants.{Whole, Short}
 use Rattle.name.specs.Texts.{goodText, goodHost}
 use Rattle.records.specs.Record.{Record, isKnown, widthOf, goodName}
 use Rattle.records.specs.Judge.{Judged, bad, good, judge}
+use Rattle.records.proofs.Accepted.{and-right}
 use Rattle.records.proofs.Shapes.{no-block, a-block}
 use Rattle.image.specs.Image.{sound, imageFrom}
 use Rattle.image.specs.Part.{recordsOf}
@@ -92,10 +93,6 @@ module _ (s : List ℕ) where
 and-left : (a b : Bool) → (a && b) ≡ true → a ≡ true
 and-left true b e = refl
 and-left false b e = e
-
-and-right : (a b : Bool) → (a && b) ≡ true → b ≡ true
-and-right true b e = e
-and-right false b e = no-true e
 
 key-sized : (tag : ℕ) (key : List ℕ) → 16 ≤ tag → tag ≤ 18 → goodKey tag key ≡ true → length key ≡ 2 * widthOf tag
 unfolding goodKey

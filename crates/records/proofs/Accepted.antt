@@ -56,7 +56,7 @@ overlap-good earlier (good q) r e = by-test (crossesAny earlier q) refl e
     by-test true x z = let y : _≡_ {A = ℕ} 0 1 = cc in absurd (omega arith)
     by-test false x z = let f : q ≡ r = cc in (z, (rw f at x))
 
-and-right : (a b : Bool) → (a && b) ≡ true → b ≡ true
+pub and-right : (a b : Bool) → (a && b) ≡ true → b ≡ true
 and-right true b e = e
 and-right false b e = absurd (false≢true e)
 
