@@ -1,4 +1,2 @@
-pub mod Nests
-pub mod Scans
 pub mod Finals
 pub mod Numbered

@@ -1,3 +1,2 @@
-pub mod Overlaps
 pub mod Call
 pub mod Final

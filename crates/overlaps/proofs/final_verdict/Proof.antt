@@ -5,9 +5,9 @@ use Prim.Native.Nat.{_-_, _≤_, _<_}
 use native.Mathlib.Omega.{arith}
 use mathlib.Core.Logic.{⊎-elim}
 use Rattle.merged.proofs.Ranks.{count-is}
-use Rattle.fold.proofs.Finals.{too-long, overlapping, too-many, no-defect}
-use Rattle.fold.proofs.final_verdict.Statement.{statement}
-use Rattle.fold.proofs.final_verdict.Tie as tie
+use Rattle.overlaps.proofs.Verdicts.{too-long, overlapping, too-many, no-defect}
+use Rattle.overlaps.proofs.final_verdict.Statement.{statement}
+use Rattle.overlaps.proofs.final_verdict.Tie as tie
 
 returns : tie.Need-returns
 returns c = let a = c .before .before .before in too-long _ _ (a .pre .3) _ (a .pre .4) (c .if1 .taken)

@@ -4,10 +4,10 @@ use Prim.Native.Nat.{_-_}
 use native.Mathlib.Omega.{arith}
 use denote.Ref.{now}
 use mathlib.Core.Logic.{inl, inr}
-use Rattle.fold.specs.Overlaps.{OpenBlocks}
+use Rattle.overlaps.specs.Overlaps.{OpenBlocks}
 use Rattle.merged.proofs.Known.{known}
-use Rattle.fold.proofs.place_of.Statement.{statement}
-use Rattle.fold.proofs.place_of.Tie as tie
+use Rattle.overlaps.proofs.place_of.Statement.{statement}
+use Rattle.overlaps.proofs.place_of.Tie as tie
 
 shared-slice-read-if1 : tie.Need-shared-slice-read-if1
 shared-slice-read-if1 c = omega (arith, known _ (c .before .before .before .before .pre .1) .long)

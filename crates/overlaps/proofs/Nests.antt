@@ -11,8 +11,8 @@ use Rattle.address.specs.Positions.{numberIn}
 use Rattle.records.specs.Record.{Record, widthOf, firstOf, lastOf}
 use Rattle.image.specs.Open.{openAt, sticksOut}
 use Rattle.merged.specs.Held.{bytesAt, parsedFrom, Recorded}
-use Rattle.fold.specs.Overlaps.{openIn, NestedIn}
-use Rattle.fold.specs.declared.Nesting.the-variants.{Under, Crossing}
+use Rattle.overlaps.specs.Overlaps.{openIn, NestedIn}
+use Rattle.overlaps.specs.declared.Nesting.the-variants.{Under, Crossing}
 use Rattle.merged.proofs.Known.{range-read, key-room}
 
 -- the addresses of a block where the code reads them

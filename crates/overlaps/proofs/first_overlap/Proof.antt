@@ -7,11 +7,11 @@ use native.Mathlib.Omega.{arith}
 use lib.ListN.{length, getD, take}
 use denote.Ref.{now}
 use Rattle.merged.specs.Held.{bytesAt, parsedFrom, entriesAt, Recorded}
-use Rattle.fold.specs.Overlaps.{PlacedIn}
+use Rattle.overlaps.specs.Overlaps.{PlacedIn}
 use Rattle.merged.proofs.Known.{known}
-use Rattle.fold.proofs.Scans.{Scanned, scan-start, scan-on, scan-crossing, scan-depth, scan-room, open-blocks, whole, overlap-here, overlap-none}
-use Rattle.fold.proofs.first_overlap.Statement.{statement}
-use Rattle.fold.proofs.first_overlap.Tie as tie
+use Rattle.overlaps.proofs.Scans.{Scanned, scan-start, scan-on, scan-crossing, scan-depth, scan-room, open-blocks, whole, overlap-here, overlap-none}
+use Rattle.overlaps.proofs.first_overlap.Statement.{statement}
+use Rattle.overlaps.proofs.first_overlap.Tie as tie
 
 abbrev Inv-loop : tie.InvT-loop
 Inv-loop image changes index count n stack₀ depth₀ family₀ i₀ stack depth family i = (i ≤ n) × Scanned image changes (entriesAt image changes (take count index)) stack depth family i

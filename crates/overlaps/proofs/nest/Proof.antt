@@ -13,11 +13,11 @@ use Rattle.records.specs.Record.{widthOf, firstOf, lastOf}
 use Rattle.image.proofs.Addresses.{wide-family}
 use Rattle.image.specs.Open.{openAt}
 use Rattle.merged.specs.Held.{bytesAt, parsedFrom, Recorded}
-use Rattle.fold.specs.Overlaps.{openIn}
+use Rattle.overlaps.specs.Overlaps.{openIn}
 use Rattle.merged.proofs.Known.{known}
-use Rattle.fold.proofs.Nests.{first-read, last-read, room-read, nest-none, nest-on, nest-under, nest-out}
-use Rattle.fold.proofs.nest.Statement.{statement}
-use Rattle.fold.proofs.nest.Tie as tie
+use Rattle.overlaps.proofs.Nests.{first-read, last-read, room-read, nest-none, nest-on, nest-under, nest-out}
+use Rattle.overlaps.proofs.nest.Statement.{statement}
+use Rattle.overlaps.proofs.nest.Tie as tie
 
 abbrev Inv-loop : tie.InvT-loop
 Inv-loop image changes r stack depth width d₀ d = (d ≤ depth) × (width ≡ widthOf (parsedFrom r .tag)) × (openAt (firstOf (parsedFrom r)) (openIn image changes stack d) ≡ openAt (firstOf (parsedFrom r)) (openIn image changes stack depth))

@@ -24,9 +24,9 @@ use Rattle.rows.specs.Ordered.{AllAfter, after-cons, Ordered, ordered-cons}
 use Rattle.records.proofs.Judging.{judged-after}
 use Rattle.rows.proofs.Rows.{image-step, entry-head}
 use Rattle.merged.specs.Held.{bytesAt, parsedFrom, entryOf, entriesAt, Recorded, Held}
-use Rattle.fold.specs.Overlaps.{openIn, OpenBlocks, NestedIn, PlacedIn, Overlaps}
-use Rattle.fold.specs.declared.Nesting.{Nesting}
-use Rattle.fold.specs.declared.Nesting.the-variants.{Under, Crossing}
+use Rattle.overlaps.specs.Overlaps.{openIn, OpenBlocks, NestedIn, PlacedIn, Overlaps}
+use Rattle.overlaps.specs.declared.Nesting.{Nesting}
+use Rattle.overlaps.specs.declared.Nesting.the-variants.{Under, Crossing}
 use Rattle.merged.proofs.Known.{known, first-at-most}
 use Rattle.merged.proofs.Ranks.{entry-at, recorded-at}
 

@@ -10,8 +10,8 @@ use Rattle.image.specs.Image.{defective, imageFrom}
 use Rattle.image.specs.Open.{openAt, sticksOut}
 use Rattle.rows.specs.Entry.{Entry, rowOf}
 use Rattle.merged.specs.Held.{bytesAt, parsedFrom, Recorded}
-use Rattle.fold.specs.declared.Nesting.{Nesting}
-use Rattle.fold.specs.declared.Nesting.the-variants.{Under, Crossing}
+use Rattle.overlaps.specs.declared.Nesting.{Nesting}
+use Rattle.overlaps.specs.declared.Nesting.the-variants.{Under, Crossing}
 
 -- The open blocks start at the first `depth` places of `stack`, the innermost last
 

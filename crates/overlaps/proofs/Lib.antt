@@ -1,0 +1,3 @@
+pub mod Nests
+pub mod Scans
+pub mod Verdicts
