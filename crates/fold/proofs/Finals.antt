@@ -23,9 +23,13 @@ use Rattle.rows.proofs.Ordering.{sound-ordered}
 use Rattle.merged.specs.Held.{entriesAt, Held}
 use Rattle.merged.proofs.Rows.{index-entries}
 use Rattle.changes.specs.Change.{Changed, done, refusedAt, changesOf}
-use Rattle.changes.specs.Fold.{badImage, badChange, noRoom, fits, finished, afterChanges, foldOf}
+use Rattle.changes.specs.Fold.{badImage, badChange, noRoom, fits, finished, afterChanges, foldOf, afterImage}
 use Rattle.listing.specs.Writing.{Written}
 use Rattle.listing.proofs.Writing.{written-both}
+use Rattle.applying.specs.Steps.{AppliedTo}
+use Rattle.applying.specs.declared.Applied.{Applied}
+use Rattle.applying.specs.declared.Applied.the-variants.{Done, RefusedAt}
+use Rattle.fold.specs.Final.{changedIn, ChangedTo}
 use Rattle.fold.specs.Call.{foldedOf, counting, Gives}
 use Rattle.fold.specs.declared.Folded.{Folded}
 
@@ -70,32 +74,7 @@ pub put-next : {s r x before b c row : List ℕ} {m : ℕ} → Written s before 
 put-next {s} {r} {x} {before} {b} {c} {row} {m} u e f g =
     subst (λ (t : List ℕ). Written t before (putMid m (length b - m) b c) (m + length r)) (ap (λ (t : List ℕ). s ++ t) e ∙ sym f) (written-both u (record { size = refl; is = g }))
 
--- The call
-
-module _ (image changes before : List ℕ) where
-  pub fold-defective : (v : Verdict) → v ≡ verdictOf (imageOf image) → (d p : ℕ) → v ≡ Defective d p → (r : Folded) → r ≡ foldedOf (badImage 2 d p)
-      → Gives (foldOf image changes (length before)) before before r
-  unfolding foldOf
-  fold-defective v e d p f r g = rw (verdict-bad (imageOf image) v d p e f) (record { numbers = g; out = refl })
-
-  module _ (s : imageOf image ≡ sound (recordsOf (imageOf image))) where
-    by-sound : (records : List Record) → imageOf image ≡ sound records → (t : Bool) → leb (length changes) 65536 ≡ t
-        → foldOf image changes (length before) ≡ cond t (afterChanges (take 4 image) (length before) (changesOf (entriesOf records (drop 4 image)) changes)) (badChange 0)
-    unfolding foldOf
-    by-sound records e t f = rw (e, f)
-
-    pub fold-long : 65536 < length changes → (r : Folded) → r ≡ foldedOf (badChange 0) → Gives (foldOf image changes (length before)) before before r
-    fold-long h r g = rw (by-sound (recordsOf (imageOf image)) s false (lt-leb _ _ h)) (record { numbers = g; out = refl })
-
-    module _ (h : length changes ≤ 65536) where
-      pub fold-refused : (o : ℕ) → changesOf (entriesOf (recordsOf (imageOf image)) (drop 4 image)) changes ≡ refusedAt o → (r : Folded) → r ≡ foldedOf (badChange o)
-          → Gives (foldOf image changes (length before)) before before r
-      fold-refused o e r g = rw (by-sound (recordsOf (imageOf image)) s true (le-leb _ _ h), e) (record { numbers = g; out = refl })
-
-      pub fold-finished : (es : List Entry) → changesOf (entriesOf (recordsOf (imageOf image)) (drop 4 image)) changes ≡ done es → (after : List ℕ) (r : Folded)
-          → Gives (finished (take 4 image ++ rowOf es) (length before) (imageOf (take 4 image ++ rowOf es))) before after r
-          → Gives (foldOf image changes (length before)) before after r
-      fold-finished es e after r a = rw (by-sound (recordsOf (imageOf image)) s true (le-leb _ _ h), e) a
+-- The changes
 
 -- the index of a sound image holds its records
 module _ (image changes places index : List ℕ) (count : ℕ) (x : Indexed image count places) (e : take count index ≡ take count places) where
@@ -110,5 +89,43 @@ module _ (image changes places index : List ℕ) (count : ℕ) (x : Indexed imag
         ordered = rw (before-changes, parsed-entries (recordsOf (imageOf image)) (drop 4 image)) (sound-ordered image (recordsOf (imageOf image)) s);
       }
 
-  pub from-index : (c : Changed) → changesOf (entriesAt image changes (take count index)) changes ≡ c → changesOf (entriesOf (recordsOf (imageOf image)) (drop 4 image)) changes ≡ c
-  from-index c f = ap (λ (es : List Entry). changesOf es changes) (sym before-changes) ∙ f
+  module _ (h : length changes ≤ 65536) (after : List ℕ) where
+    changed-is : changedIn image changes (recordsOf (imageOf image)) ≡ changesOf (entriesAt image changes (take count index)) changes
+    changed-is = rw (le-leb (length changes) 65536 h) (ap (λ (es : List Entry). changesOf es changes) (sym before-changes))
+
+    pub changed-to : (r : Applied) → AppliedTo image changes (entriesAt image changes (take count index)) after r → ChangedTo image changes after r
+    changed-to (Done n) a = (changed-is ∙ a .0, a .1, a .2, h)
+    changed-to (RefusedAt offset) a = (changed-is ∙ a .0, omega (arith, a .1))
+
+pub changed-long : (image changes after : List ℕ) → 65536 < length changes → ChangedTo image changes after (RefusedAt 0)
+changed-long image changes after h = (rw (lt-leb (length changes) 65536 h), omega arith)
+
+-- The call
+
+module _ (image changes before : List ℕ) where
+  pub fold-defective : (v : Verdict) → v ≡ verdictOf (imageOf image) → (d p : ℕ) → v ≡ Defective d p → (r : Folded) → r ≡ foldedOf (badImage 2 d p)
+      → Gives (foldOf image changes (length before)) before before r
+  unfolding foldOf
+  fold-defective v e d p f r g = rw (verdict-bad (imageOf image) v d p e f) (record { numbers = g; out = refl })
+
+  module _ (s : imageOf image ≡ sound (recordsOf (imageOf image))) (c : Changed) (e : changedIn image changes (recordsOf (imageOf image)) ≡ c) where
+    by-length : (records : List Record) (t : Bool)
+        → cond t (afterChanges (take 4 image) (length before) (changesOf (entriesOf records (drop 4 image)) changes)) (badChange 0)
+        ≡ afterChanges (take 4 image) (length before) (cond t (changesOf (entriesOf records (drop 4 image)) changes) (refusedAt 0))
+    by-length records true = refl
+    by-length records false = refl
+
+    pub fold-is : foldOf image changes (length before) ≡ afterChanges (take 4 image) (length before) c
+    unfolding foldOf
+    fold-is =
+        ap (afterImage image changes (length before)) s ∙ by-length (recordsOf (imageOf image)) (leb (length changes) 65536)
+        ∙ ap (afterChanges (take 4 image) (length before)) e
+
+  pub fold-refused : imageOf image ≡ sound (recordsOf (imageOf image)) → (o : ℕ) → changedIn image changes (recordsOf (imageOf image)) ≡ refusedAt o → (r : Folded)
+      → r ≡ foldedOf (badChange o) → Gives (foldOf image changes (length before)) before before r
+  fold-refused s o e r g = rw (fold-is s (refusedAt o) e) (record { numbers = g; out = refl })
+
+  pub fold-finished : imageOf image ≡ sound (recordsOf (imageOf image)) → (es : List Entry) → changedIn image changes (recordsOf (imageOf image)) ≡ done es
+      → (after : List ℕ) (r : Folded) → Gives (finished (take 4 image ++ rowOf es) (length before) (imageOf (take 4 image ++ rowOf es))) before after r
+      → Gives (foldOf image changes (length before)) before after r
+  fold-finished s es e after r a = rw (fold-is s (done es) e) a

@@ -4,13 +4,13 @@ ghost use mathlib.Core.Bool.{true};
 ghost use mathlib.Core.List.{_++_};
 ghost use Prim.Native.Nat.{_+_, _≤_};
 ghost use lib.ListN.{length, take};
-ghost use Rattle.image.specs.Image.{startsRight, imageOf};
+ghost use Rattle.image.specs.Image.{startsRight};
 ghost use Rattle.image.specs.Index.{Indexed};
 ghost use Rattle.listing.specs.Writing.{Written};
 ghost use Rattle.rows.specs.Entry.{rowOf};
 ghost use Rattle.changes.specs.Fold.{badImage, badChange, foldOf};
 ghost use Rattle.merged.specs.Held.{entriesAt, Held};
-ghost use Rattle.fold.specs.Final.{finalRecord};
+ghost use Rattle.fold.specs.Final.{ChangedTo, finalRecord};
 ghost use Rattle.fold.specs.Call.{foldedOf, outAfter, counting, Gives, Finished};
 use applying::Applied;
 use applying::apply;
@@ -113,7 +113,25 @@ fn finish<'a>(
     counted(0, (4 + rest) as u32)
 }
 
-// The changes applied to a sound image, whose index is handed in.
+// The changes applied to a sound image, whose index is handed in. The index of the records afterwards is noted.
+fn changed<'a>(
+    image: &'a [u8],
+    changes: &'a [u8],
+    places: &mut [u32; 4096],
+    count: usize,
+    index: &mut [u32; 9600],
+) -> Applied
+    requires { ⌜ Indexed (now image) count (now places) × (length (now index) ≡ 9600) ⌝ }
+    ensures { λ r. ⌜ ChangedTo (now (image .entry)) (now (changes .entry)) (now (index .exit)) r × (length (now (index .exit)) ≡ 9600) ⌝ }
+{
+    if 65536 < changes.len() {
+        return Applied::RefusedAt(0);
+    }
+    note_places(places, count, index);
+    apply(image, changes, index, count, places)
+}
+
+// The fold of a sound image, whose index is handed in.
 fn fold_sound<'a>(
     image: &'a [u8],
     changes: &'a [u8],
@@ -124,12 +142,8 @@ fn fold_sound<'a>(
     requires { ⌜ Indexed (now image) count (now places) ⌝ }
     ensures { λ r. ⌜ Gives (foldOf (now (image .entry)) (now (changes .entry)) (length (now (out .entry)))) (now (out .entry)) (now (out .exit)) r ⌝ }
 {
-    if 65536 < changes.len() {
-        return bad_change(0);
-    }
     let mut index = [0u32; 9600];
-    note_places(places, count, &mut index);
-    match apply(image, changes, &mut index, count, places) {
+    match changed(image, changes, places, count, &mut index) {
         Applied::RefusedAt(offset) => bad_change(offset as u32),
         Applied::Done(n) => finish(image, changes, &index, n, out),
     }
@@ -157,12 +171,8 @@ fn record_after<'a>(
     requires { ⌜ Indexed (now image) count (now places) ⌝ }
     ensures { λ r. ⌜ now r ≡ finalRecord (now (image .entry)) (now (changes .entry)) number ⌝ }
 {
-    if 65536 < changes.len() {
-        return &image[0..0];
-    }
     let mut index = [0u32; 9600];
-    note_places(places, count, &mut index);
-    match apply(image, changes, &mut index, count, places) {
+    match changed(image, changes, places, count, &mut index) {
         Applied::RefusedAt(_) => &image[0..0],
         Applied::Done(n) => {
             if n <= number {
