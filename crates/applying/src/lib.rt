@@ -51,7 +51,7 @@ fn good_key(tag: u8, key: &[u8]) -> bool
 }
 
 // Whether this is a record tag's byte and then the bare key of one to remove.
-fn good_removal(r: &[u8]) -> bool
+pub fn good_removal(r: &[u8]) -> bool
     ensures { λ b. ⌜ Removal (now (r .entry)) b ⌝ }
 {
     if r.len() == 0 {
