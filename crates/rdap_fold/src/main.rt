@@ -1,0 +1,416 @@
+// Folds a file of changes into an image file.
+//
+// rdap_fold IMAGE CHANGES OUTPUT
+//
+// The final image goes to a new file beside OUTPUT, which is then renamed to OUTPUT: who reads OUTPUT finds the old image or the new one.
+// Its number of bytes goes to standard output. IMAGE has at most 262,144 bytes, CHANGES at most 65,536.
+ghost use Prim.Native.Nat.{_≤_, _<_};
+ghost use lib.ListN.{length};
+use fields::Field;
+use fields::field_after;
+use fields::step_at;
+use fold::Folded;
+use fold::final_record;
+use image::Verdict;
+use image::index_from;
+use libc::STDERR_FILENO;
+use libc::STDOUT_FILENO;
+use listing::put_bytes;
+
+// What is wrong: parts of a line on standard error.
+
+fn tell(text: &[u8]) {
+    io::write_all(STDERR_FILENO, text);
+}
+
+fn tell_number(n: u64) {
+    io::print_decimal(STDERR_FILENO, n);
+}
+
+fn wide(n: u32) -> u64 {
+    n as u64
+}
+
+// A defect in words.
+fn tell_defect(defect: u32, place: u32) {
+    match defect {
+        1 => tell(b"longer than 262144 bytes"),
+        2 => tell(b"it does not start with the bytes 01 00 01 01"),
+        3 => {
+            if place < 4096 {
+                tell(b"it is cut short or has an unknown tag");
+            } else {
+                tell(b"it comes after 4096 others");
+            }
+        }
+        4 => tell(b"an inner field is missing, out of order or of a wrong length"),
+        5 => tell(b"what a field holds is not of its form, or first is above last"),
+        6 => tell(b"it does not sort after the record before it"),
+        _ => tell(b"it overlaps an earlier block without lying inside it"),
+    }
+}
+
+// The handle of a record, if there is one.
+fn tell_handle(r: &[u8]) {
+    if r.len() == 0 {
+        return;
+    }
+    let before = if r[0] <= 0x12 { 1 } else { 0 };
+    let Field::Whole { tag: _, start, end } = field_after(r, 3, before) else {
+        return;
+    };
+    tell(b" (");
+    tell(&r[start..end]);
+    tell(b")");
+}
+
+// The defect of an image, and the record r that has it. Defects 1 and 2 are of no record.
+fn tell_defective(defect: u32, place: u32, r: &[u8]) {
+    tell(b"defect ");
+    tell_number(wide(defect));
+    if 2 < defect {
+        tell(b" in record ");
+        tell_number(wide(place));
+        tell_handle(r);
+    }
+    tell(b": ");
+    tell_defect(defect, place);
+    tell(b"\n");
+}
+
+// What is wrong with a change that holds r as the record to add.
+fn tell_addition(r: &[u8])
+    requires { ⌜ length (now r) ≤ 65536 ⌝ }
+{
+    let mut places = [0u32; 4096];
+    match index_from(r, 0, &mut places) {
+        Verdict::Sound(count) => {
+            if count == 0 {
+                tell(b"it holds no record");
+            } else if count == 1 {
+                tell(b"it adds a record whose key is already there");
+                tell_handle(r);
+            } else {
+                tell(b"bytes follow its record");
+            }
+        }
+        Verdict::Defective(defect, place) => {
+            if place == 0 {
+                tell(b"its record has defect ");
+                tell_number(wide(defect));
+                tell(b": ");
+                tell_defect(defect, place);
+            } else {
+                tell(b"bytes follow its record");
+            }
+        }
+    }
+}
+
+fn has_record_tag(r: &[u8]) -> bool {
+    if r.len() == 0 {
+        return false;
+    }
+    if r[0] < 0x10 {
+        return false;
+    }
+    r[0] <= 0x15
+}
+
+// What is wrong with a change that holds r as the record to remove.
+fn tell_removal(r: &[u8]) {
+    if applying::good_removal(r) {
+        tell(b"it removes a record that is not there");
+    } else if has_record_tag(r) {
+        tell(b"its key is not of the form of the record's tag");
+    } else {
+        tell(b"its key has no record tag");
+    }
+}
+
+// What is wrong with the change at an offset.
+fn tell_change(changes: &[u8], at: usize)
+    requires { ⌜ length (now changes) ≤ 65536 ⌝ }
+{
+    let Field::Whole { tag, start, end } = step_at(changes, at) else {
+        tell(b"it is cut short");
+        return;
+    };
+    let r = &changes[start..end];
+    if tag == 0x30 {
+        tell_addition(r);
+    } else if tag == 0x31 {
+        tell_removal(r);
+    } else {
+        tell(b"its tag is neither 30 nor 31");
+    }
+}
+
+// How many changes there are before an offset.
+fn number_at(changes: &[u8], offset: usize) -> usize {
+    let mut n: usize = 0;
+    let mut at: usize = 0;
+    while at < offset {
+        let Field::Whole {
+            tag: _,
+            start: _,
+            end,
+        } = step_at(changes, at)
+        else {
+            return n;
+        };
+        at = end;
+        n += 1;
+    }
+    n
+}
+
+fn tell_refused(changes: &[u8], at: usize)
+    requires { ⌜ length (now changes) ≤ 65536 ⌝ }
+{
+    tell(b"change ");
+    tell_number(number_at(changes, at) as u64);
+    tell(b" at byte ");
+    tell_number(at as u64);
+    tell(b": ");
+    tell_change(changes, at);
+    tell(b"\n");
+}
+
+// Why nothing was written.
+fn tell_refusal<'a>(
+    r: Folded,
+    image: &'a [u8],
+    changes: &'a [u8],
+    image_name: &[u8],
+    changes_name: &[u8],
+)
+    requires { ⌜ length (now changes) ≤ 65536 ⌝ }
+{
+    if r.reason == 2 {
+        tell(image_name);
+        tell(b": ");
+        tell_defective(r.defect, r.place, b"");
+        return;
+    }
+    tell(changes_name);
+    tell(b": ");
+    if r.reason == 11 {
+        tell_refused(changes, r.offset as usize);
+        return;
+    }
+    tell(b"the result would have ");
+    tell_defective(
+        r.defect,
+        r.place,
+        final_record(image, changes, r.place as usize),
+    );
+}
+
+// The new file.
+
+// The name of the new file, as mkstemp takes it: OUTPUT and then a dot and six letters to be replaced.
+fn put_name(output: &[u8], name: &mut [u8]) -> usize
+    requires { ⌜ (length (now output) ≤ 4096) × (4103 ≤ length (now name)) ⌝ }
+    ensures { λ r. ⌜ r ≤ length (now (name .exit)) ⌝ }
+{
+    let n = output.len();
+    put_bytes(output, name);
+    put_bytes(b".XXXXXX", &mut name[n..]);
+    n + 7
+}
+
+// Makes the new file. mkstemp finds a name that is free; as its file may be read by nobody else, the file is made again, as any new file is.
+fn make_beside(name: &mut [u8]) -> i32 {
+    let found = os::create_temp(name);
+    if found < 0 {
+        return found;
+    }
+    libc::close(found);
+    if os::unlink(name) < 0 {
+        return -1;
+    }
+    os::create(name)
+}
+
+fn is_written(fd: i32, bytes: &[u8]) -> bool {
+    if !io::write_all(fd, bytes) {
+        return false;
+    }
+    libc::fsync(fd) == 0
+}
+
+// Writes the new file and closes it. Where that fails, says so.
+fn fill(fd: i32, bytes: &[u8], output: &[u8]) -> bool {
+    if !is_written(fd, bytes) {
+        os::fail(output);
+        libc::close(fd);
+        return false;
+    }
+    if libc::close(fd) < 0 {
+        os::fail(output);
+        return false;
+    }
+    true
+}
+
+// Puts a new file in the place of OUTPUT. Where that fails, says so, and OUTPUT is as it was.
+fn replace(output: &[u8], bytes: &[u8], name: &mut [u8]) -> bool {
+    let fd = make_beside(name);
+    if fd < 0 {
+        os::fail(output);
+        return false;
+    }
+    if fill(fd, bytes, output) {
+        if os::rename(name, output) == 0 {
+            return true;
+        }
+        os::fail(output);
+    }
+    os::unlink(name);
+    false
+}
+
+// Puts the bytes in the place of OUTPUT.
+fn save(output: &[u8], bytes: &[u8]) -> bool
+    requires { ⌜ length (now output) ≤ 4096 ⌝ }
+{
+    let mut name = [0u8; 4103];
+    let n = put_name(output, &mut name);
+    replace(output, bytes, &mut name[..n])
+}
+
+// The number of bytes, on standard output.
+fn write_number(n: usize) {
+    if !io::print_decimal(STDOUT_FILENO, n as u64) {
+        os::fail(b"standard output");
+        return;
+    }
+    if !io::write_all(STDOUT_FILENO, b"\n") {
+        os::fail(b"standard output");
+    }
+}
+
+// The final image is the first bytes of the room.
+fn finish(output: &[u8], room: &[u8], n: usize)
+    requires { ⌜ length (now output) ≤ 4096 ⌝ }
+{
+    if n <= room.len() {
+        if save(output, &room[..n]) {
+            write_number(n);
+        }
+    }
+}
+
+fn fold_into<'a>(
+    image: &'a [u8],
+    changes: &'a [u8],
+    image_name: &[u8],
+    changes_name: &[u8],
+    output: &[u8],
+)
+    requires { ⌜ (length (now changes) ≤ 65536) × (length (now output) ≤ 4096) ⌝ }
+{
+    let mut room = [0u8; 262144];
+    let r = rdap::fold(image, changes, &mut room);
+    if r.reason == 0 {
+        finish(output, &room, r.count as usize);
+    } else {
+        tell_refusal(r, image, changes, image_name, changes_name);
+    }
+}
+
+// The files that are read.
+
+// Reads what an open file holds into a room with one byte more than it may hold.
+fn read_open(fd: i32, name: &[u8], room: &mut [u8]) -> usize
+    requires { ⌜ 0 < length (now room) ⌝ }
+{
+    let n = io::read_full(fd, room);
+    if n == room.len() {
+        tell(name);
+        tell(b": longer than ");
+        tell_number((n - 1) as u64);
+        tell(b" bytes\n");
+        return n;
+    }
+    let mut more = [0u8; 1];
+    let left = libc::read(fd, &mut more);
+    if left != 0 {
+        os::fail(name);
+        return room.len();
+    }
+    n
+}
+
+// Reads a file whole into such a room. Where that fails, says so and gives the length of the room.
+fn read_whole(name: &[u8], room: &mut [u8]) -> usize
+    requires { ⌜ 0 < length (now room) ⌝ }
+{
+    let fd = os::open_read(name);
+    if fd < 0 {
+        os::fail(name);
+        return room.len();
+    }
+    let n = read_open(fd, name, room);
+    libc::close(fd);
+    n
+}
+
+// Folds files of n and m bytes, which are at the start of their rooms.
+fn fold_read<'a>(
+    image: &'a [u8],
+    n: usize,
+    changes: &'a [u8],
+    m: usize,
+    image_name: &[u8],
+    changes_name: &[u8],
+    output: &[u8],
+)
+    requires { ⌜ (length (now changes) ≤ 65537) × (length (now output) ≤ 4096) ⌝ }
+{
+    if n < image.len() {
+        if m < changes.len() {
+            fold_into(&image[..n], &changes[..m], image_name, changes_name, output);
+        }
+    }
+}
+
+fn run(image_name: &[u8], changes_name: &[u8], output: &[u8])
+    requires { ⌜ length (now output) ≤ 4096 ⌝ }
+{
+    let mut image = [0u8; 262145];
+    let n = read_whole(image_name, &mut image);
+    if 262144 < n {
+        return;
+    }
+    let mut changes = [0u8; 65537];
+    let m = read_whole(changes_name, &mut changes);
+    fold_read(&image, n, &changes, m, image_name, changes_name, output);
+}
+
+fn main() {
+    if os::arg_count() != 4 {
+        tell(b"usage: rdap_fold IMAGE CHANGES OUTPUT\n");
+        return;
+    }
+    let mut image = io::buffer();
+    let i = os::arg(1, &mut image);
+    if os::errno() != 0 {
+        os::fail(b"IMAGE");
+        return;
+    }
+    let mut changes = io::buffer();
+    let c = os::arg(2, &mut changes);
+    if os::errno() != 0 {
+        os::fail(b"CHANGES");
+        return;
+    }
+    let mut output = io::buffer();
+    let o = os::arg(3, &mut output);
+    if os::errno() != 0 {
+        os::fail(b"OUTPUT");
+        return;
+    }
+    run(&image[..i], &changes[..c], &output[..o]);
+}
