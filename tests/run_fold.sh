@@ -12,7 +12,8 @@ program=$(realpath "$1")
 tests=$(realpath "$(dirname "$0")")
 vectors=$tests/vectors
 . "$tests/tally.sh"
-work=$(mktemp -d)
+# in memory where that can be had: the program waits until a file has reached its device
+work=$(mktemp -d -p /dev/shm 2>/dev/null) || work=$(mktemp -d)
 trap 'rm -rf "$work"' EXIT
 mkdir "$work/in" && cd "$work/in" || exit 1
 umask 022
@@ -129,7 +130,9 @@ says "$key" 31000315612a
 says 'it adds a record whose key is already there (ENT-1)' 30001115000e210005454e542d31220003416461
 says 'it adds a record whose key is already there (OTHER)' 3000191300162100054f5448455222000b6578616d706c652e636f6d
 says 'it adds a record whose key is already there (H)' "$first"
-says 'it removes a record that is not there' 310007156e6f73756368
+says 'it removes a record that is not there (nosuch)' 310007156e6f73756368
+says 'it removes a record that is not there (b.example)' 31000a13622e6578616d706c65
+says 'it removes a record that is not there' 310009100a0000000a00ffff
 
 bytes "31000615454e542d3131000615454e542d32$first$first" changes
 refuses 'the changes are counted' 'changes: change 3 at byte 47: it adds a record whose key is already there (H)'
@@ -166,7 +169,7 @@ final() {
 final 'overlap' base.image 30001d10001a2000080affffff0b0000002100044f5645522200014e23000101 "7 in record 2 (OVER): $overlap"
 final 'a later record overlaps' base.image 30001a100017200008090000000a000000210001482200014e23000101 "7 in record 1 (TEN): $overlap"
 final '4,097 records' full4096.image 30000c1500092100027a7a2200014e '3 in record 4096 (zz): it comes after 4096 others'
-final 'too long' bytes262144.image 30000b1500082100017e2200016e '1: longer than 262144 bytes'
+final 'too long' bytes262144.image 30000b1500082100017e2200016e '1: it is longer than 262144 bytes'
 
 # Files at the limits.
 : >changes
@@ -205,8 +208,12 @@ cp "$vectors/campus.image" image
 printf '\61\0\6\25ENT-2' >changes
 refuses 'output in a missing folder' 'missing/output: No such file or directory' image changes missing/output
 refuses 'output in a file' 'image/output: Not a directory' image changes image/output
-refuses 'output is a folder' "$work: Is a directory" image changes "$work"
-refuses 'output is this folder' ".: *" image changes .
+refuses 'output is a folder' "$work: not a regular file" image changes "$work"
+refuses 'output is this folder' '.: not a regular file' image changes .
+mkfifo "$work/pipe"
+refuses 'output is a pipe' "$work/pipe: not a regular file" image changes "$work/pipe"
+[ -p "$work/pipe" ] && [ "$(echo "$work"/pipe*)" = "$work/pipe" ]
+told 'the pipe is left' $?
 refuses 'empty name of output' ': No such file or directory' image changes ''
 letters=$(printf '%0249d' 0)
 refuses 'output with a name of 249 bytes' "$letters: File name too long" image changes "$letters"
@@ -239,11 +246,25 @@ writes 'output is old' "$work/expected"
 [ "$(cat <&3)" = old ]
 told 'who has the old output open reads it whole' $?
 exec 3<&-
+chmod 640 output
+writes 'output is for its group' "$work/expected"
+[ "$(stat -c %a output)" = 640 ]
+told "mode of an old output: $(stat -c %a output)" $?
+if [ "$(id -u)" -eq 0 ]; then
+    chown 12:34 output
+    writes "output is another's" "$work/expected"
+    [ "$(stat -c %u:%g:%a output)" = 12:34:640 ]
+    told "owner, group and mode of another's output: $(stat -c %u:%g:%a output)" $?
+fi
+mv output "$work/target" && echo old >"$work/target" && ln -s "$work/target" output
+writes 'output is a link' "$work/expected"
+[ ! -L output ] && [ "$(<"$work/target")" = old ]
+told 'the link is replaced, and not what it leads to' $?
 writes 'output by its whole name' "$work/expected" image changes "$PWD/output"
 writes 'image from a pipe' "$work/expected" <(cat image) changes output
 writes 'changes from a pipe' "$work/expected" image <(cat changes) output
 writes 'output is the image' "$work/expected" image changes image
-refuses 'a second time' 'changes: change 0 at byte 0: it removes a record that is not there'
+refuses 'a second time' 'changes: change 0 at byte 0: it removes a record that is not there (ENT-2)'
 
 echo old >output
 "$program" "$vectors/campus.image" changes output >/dev/full 2>"$work/err"

@@ -4,6 +4,8 @@
 //
 // The final image goes to a new file beside OUTPUT, which is then renamed to OUTPUT: who reads OUTPUT finds the old image or the new one.
 // Its number of bytes goes to standard output. IMAGE has at most 262,144 bytes, CHANGES at most 65,536.
+mod known;
+
 ghost use Prim.Native.Nat.{_≤_, _<_};
 ghost use lib.ListN.{length};
 use fields::Field;
@@ -13,8 +15,10 @@ use fold::Folded;
 use fold::final_record;
 use image::Verdict;
 use image::index_from;
+use known::Known;
 use libc::STDERR_FILENO;
 use libc::STDOUT_FILENO;
+use libc::types::stat;
 use listing::put_bytes;
 
 // What is wrong: parts of a line on standard error.
@@ -34,7 +38,7 @@ fn wide(n: u32) -> u64 {
 // A defect in words.
 fn tell_defect(defect: u32, place: u32) {
     match defect {
-        1 => tell(b"longer than 262144 bytes"),
+        1 => tell(b"it is longer than 262144 bytes"),
         2 => tell(b"it does not start with the bytes 01 00 01 01"),
         3 => {
             if place < 4096 {
@@ -117,10 +121,24 @@ fn has_record_tag(r: &[u8]) -> bool {
     r[0] <= 0x15
 }
 
+// The name or the handle that a removal gives. A range is not text.
+fn tell_key(r: &[u8]) {
+    if r.len() == 0 {
+        return;
+    }
+    if r[0] <= 0x12 {
+        return;
+    }
+    tell(b" (");
+    tell(&r[1..]);
+    tell(b")");
+}
+
 // What is wrong with a change that holds r as the record to remove.
 fn tell_removal(r: &[u8]) {
     if applying::good_removal(r) {
         tell(b"it removes a record that is not there");
+        tell_key(r);
     } else if has_record_tag(r) {
         tell(b"its key is not of the form of the record's tag");
     } else {
@@ -220,29 +238,46 @@ fn put_name(output: &[u8], name: &mut [u8]) -> usize
     n + 7
 }
 
-// Makes the new file. mkstemp finds a name that is free; as its file may be read by nobody else, the file is made again, as any new file is.
-fn make_beside(name: &mut [u8]) -> i32 {
-    let found = os::create_temp(name);
-    if found < 0 {
-        return found;
+// Makes the new file, which nobody else may read yet: it is to have the permissions of the old one. If there is none, it is made again as any file.
+fn make_beside(name: &mut [u8], old: Known) -> i32 {
+    let fd = os::create_temp(name);
+    if fd < 0 {
+        return fd;
     }
-    libc::close(found);
+    if old.status == 0 {
+        return fd;
+    }
+    libc::close(fd);
     if os::unlink(name) < 0 {
         return -1;
     }
     os::create(name)
 }
 
-fn is_written(fd: i32, bytes: &[u8]) -> bool {
+// Gives the new file the permissions of the old one, and its owner and group as far as whoever runs this may.
+fn hand_over(fd: i32, old: stat) -> bool {
+    if libc::fchown(fd, old.st_uid, old.st_gid) < 0 {
+        libc::fchown(fd, u32::MAX, old.st_gid);
+    }
+    libc::fchmod(fd, old.st_mode & 0o777) == 0
+}
+
+fn is_written(fd: i32, bytes: &[u8], old: Known) -> bool {
     if !io::write_all(fd, bytes) {
         return false;
+    }
+    if old.status == 0 {
+        let file = old.file;
+        if !hand_over(fd, file) {
+            return false;
+        }
     }
     libc::fsync(fd) == 0
 }
 
 // Writes the new file and closes it. Where that fails, says so.
-fn fill(fd: i32, bytes: &[u8], output: &[u8]) -> bool {
-    if !is_written(fd, bytes) {
+fn fill(fd: i32, bytes: &[u8], output: &[u8], old: Known) -> bool {
+    if !is_written(fd, bytes, old) {
         os::fail(output);
         libc::close(fd);
         return false;
@@ -255,13 +290,13 @@ fn fill(fd: i32, bytes: &[u8], output: &[u8]) -> bool {
 }
 
 // Puts a new file in the place of OUTPUT. Where that fails, says so, and OUTPUT is as it was.
-fn replace(output: &[u8], bytes: &[u8], name: &mut [u8]) -> bool {
-    let fd = make_beside(name);
+fn replace(output: &[u8], bytes: &[u8], name: &mut [u8], old: Known) -> bool {
+    let fd = make_beside(name, old);
     if fd < 0 {
         os::fail(output);
         return false;
     }
-    if fill(fd, bytes, output) {
+    if fill(fd, bytes, output, old) {
         if os::rename(name, output) == 0 {
             return true;
         }
@@ -271,13 +306,27 @@ fn replace(output: &[u8], bytes: &[u8], name: &mut [u8]) -> bool {
     false
 }
 
+// Whether OUTPUT is a file to replace, or is not there. A folder or a device is not replaced.
+fn may_replace(old: Known) -> bool {
+    if old.status != 0 {
+        return true;
+    }
+    old.file.st_mode & libc::S_IFMT == libc::S_IFREG
+}
+
 // Puts the bytes in the place of OUTPUT.
 fn save(output: &[u8], bytes: &[u8]) -> bool
     requires { ⌜ length (now output) ≤ 4096 ⌝ }
 {
+    let old = known::of_file(output);
+    if !may_replace(old) {
+        tell(output);
+        tell(b": not a regular file\n");
+        return false;
+    }
     let mut name = [0u8; 4103];
     let n = put_name(output, &mut name);
-    replace(output, bytes, &mut name[..n])
+    replace(output, bytes, &mut name[..n], old)
 }
 
 // The number of bytes, on standard output.
