@@ -52,6 +52,14 @@ refuses() {
     told "$name: '$out', '$err', $files" $?
 }
 
+# shows NAME FORMAT EXPECTED: what stat shows of output. It is taken first: a substitution in the name would set the status that is counted.
+shows() {
+    local got
+    got=$(stat -c "$2" output)
+    [ "$got" = "$3" ]
+    told "$1: $got" $?
+}
+
 # The vectors, at the newest rules. Rows with reason 9 are of short buffers, which the program does not have.
 
 # put COLUMN FILE: its bytes, which are written for printf, or @ and the file that has them, or none
@@ -232,13 +240,11 @@ program=$limited
 "$program" image changes "$work/expected" >"$work/out"
 rm output
 writes 'output is new' "$work/expected"
-[ "$(stat -c %a output)" = 644 ]
-told "mode of a new output: $(stat -c %a output)" $?
+shows 'mode of a new output' %a 644
 rm output
 umask 077
 writes 'output is new, for its owner alone' "$work/expected"
-[ "$(stat -c %a output)" = 600 ]
-told "mode of a new output under umask 077: $(stat -c %a output)" $?
+shows 'mode of a new output under umask 077' %a 600
 umask 022
 echo old >output
 exec 3<output
@@ -248,13 +254,11 @@ told 'who has the old output open reads it whole' $?
 exec 3<&-
 chmod 640 output
 writes 'output is for its group' "$work/expected"
-[ "$(stat -c %a output)" = 640 ]
-told "mode of an old output: $(stat -c %a output)" $?
+shows 'mode of an old output' %a 640
 if [ "$(id -u)" -eq 0 ]; then
     chown 12:34 output
     writes "output is another's" "$work/expected"
-    [ "$(stat -c %u:%g:%a output)" = 12:34:640 ]
-    told "owner, group and mode of another's output: $(stat -c %u:%g:%a output)" $?
+    shows "owner, group and mode of another's output" %u:%g:%a 12:34:640
 fi
 mv output "$work/target" && echo old >"$work/target" && ln -s "$work/target" output
 writes 'output is a link' "$work/expected"
