@@ -115,7 +115,7 @@ rank-length r (x ∷ es) = by-order (follows (x .parsed) r) (rank-length r es)
     by-order true h = suc-le-suc h
     by-order false h = zero-le
 
-no-cons : (x : Entry) (rest : List Entry) → [] ≡ x ∷ rest → ⊥
+pub no-cons : (x : Entry) (rest : List Entry) → [] ≡ x ∷ rest → ⊥
 no-cons x rest e = let z : _≡_ {A = ℕ} 0 1 = cc in omega arith
 
 after-drop : (p : Record) (i : ℕ) (es : List Entry) (x : Entry) (rest : List Entry) → AllAfter p (parsedOf es) → drop i es ≡ x ∷ rest → follows p (x .parsed) ≡ true

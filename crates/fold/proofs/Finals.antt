@@ -9,13 +9,13 @@ use lib.Dec.{leb}
 use lib.ListN.{length, take, drop}
 use borrow.Rule.Slice.PartMut.{putMid}
 use Rattle.records.specs.Record.{Record}
-use Rattle.image.specs.Image.{Image, sound, defective, startsRight, imageOf}
+use Rattle.image.specs.Image.{sound, startsRight, imageOf}
 use Rattle.image.specs.Part.{recordsOf}
 use Rattle.image.specs.Place.{verdictOf}
 use Rattle.image.specs.Index.{Indexed}
 use Rattle.image.specs.declared.Verdict.{Verdict}
 use Rattle.image.specs.declared.Verdict.the-variants.{Sound, Defective}
-use Rattle.image.proofs.Soundness.{is-sound}
+use Rattle.image.proofs.Soundness.{is-sound, is-defective}
 use Rattle.rows.specs.Entry.{Entry, entriesOf, rowOf}
 use Rattle.rows.proofs.Images.{length-of, entries-good}
 use Rattle.rows.proofs.Rows.{parsed-entries}
@@ -35,24 +35,13 @@ use Rattle.fold.specs.declared.Folded.{Folded}
 
 -- The answers
 
-sound-or : (i : Image) (out : List ℕ) (room : ℕ) → ((d p : ℕ) → i ≡ defective d p → ⊥) → finished out room i ≡ cond (leb (length out) room) (fits out) (noRoom (length out))
-sound-or (sound records) out room h = refl
-sound-or (defective d p) out room h = absurd (h d p refl)
-
-pub verdict-bad : (i : Image) (v : Verdict) (d p : ℕ) → v ≡ verdictOf i → v ≡ Defective d p → i ≡ defective d p
-verdict-bad (sound records) v d p e f = let z : _≡_ {A = ℕ} 0 1 = cc in absurd (omega arith)
-verdict-bad (defective a b) v d p e f = cc
-
-verdict-good : (i : Image) (v : Verdict) (n : ℕ) → v ≡ verdictOf i → v ≡ Sound n → (d p : ℕ) → i ≡ defective d p → ⊥
-verdict-good i v n e f d p g = let h : Sound n ≡ Defective d p = sym f ∙ e ∙ ap verdictOf g in let z : _≡_ {A = ℕ} 0 1 = cc in omega arith
-
 module _ (out before : List ℕ) (v : Verdict) (e : v ≡ verdictOf (imageOf out)) where
   pub finish-bad : (d p : ℕ) → v ≡ Defective d p → (r : Folded) → r ≡ foldedOf (badImage 12 d p) → Gives (finished out (length before) (imageOf out)) before before r
-  finish-bad d p f r g = rw (verdict-bad (imageOf out) v d p e f) (record { numbers = g; out = refl })
+  finish-bad d p f r g = rw (is-defective (imageOf out) d p (sym e ∙ f)) (record { numbers = g; out = refl })
 
   module _ (n : ℕ) (f : v ≡ Sound n) (size : ℕ) (z : size ≡ length out) (r : Folded) where
     result : finished out (length before) (imageOf out) ≡ cond (leb (length out) (length before)) (fits out) (noRoom (length out))
-    result = sound-or (imageOf out) out (length before) (verdict-good (imageOf out) v n e f)
+    result = ap (finished out (length before)) (is-sound (imageOf out) n (sym e ∙ f))
 
     pub finish-full : length before < size → r ≡ counting 9 size → Gives (finished out (length before) (imageOf out)) before before r
     finish-full h g = rw (result, lt-leb (length out) (length before) (omega arith)) (record { numbers = g ∙ ap (counting 9) z; out = refl })
@@ -106,7 +95,7 @@ module _ (image changes before : List ℕ) where
   pub fold-defective : (v : Verdict) → v ≡ verdictOf (imageOf image) → (d p : ℕ) → v ≡ Defective d p → (r : Folded) → r ≡ foldedOf (badImage 2 d p)
       → Gives (foldOf image changes (length before)) before before r
   unfolding foldOf
-  fold-defective v e d p f r g = rw (verdict-bad (imageOf image) v d p e f) (record { numbers = g; out = refl })
+  fold-defective v e d p f r g = rw (is-defective (imageOf image) d p (sym e ∙ f)) (record { numbers = g; out = refl })
 
   module _ (s : imageOf image ≡ sound (recordsOf (imageOf image))) (c : Changed) (e : changedIn image changes (recordsOf (imageOf image)) ≡ c) where
     by-length : (records : List Record) (t : Bool)

@@ -9,16 +9,16 @@ use Rattle.image.specs.Part.{recordsOf}
 use Rattle.image.specs.Place.{verdictOf}
 use Rattle.image.specs.declared.Verdict.{Verdict}
 use Rattle.image.specs.declared.Verdict.the-variants.{Defective}
+use Rattle.image.proofs.Soundness.{is-defective}
 use Rattle.changes.specs.Change.{Changed, done, refusedAt}
 use Rattle.merged.specs.Held.{bytesAt, entriesAt}
 use Rattle.merged.proofs.Ranks.{count-is, entry-at}
 use Rattle.fold.specs.Final.{changedIn, bytesOfFirst, recordAfter, recordIn, finalRecord}
-use Rattle.fold.proofs.Finals.{verdict-bad}
 
 module _ (image changes : List ℕ) (n : ℕ) where
   pub record-defective : (v : Verdict) → v ≡ verdictOf (imageOf image) → (d p : ℕ) → v ≡ Defective d p → [] ≡ finalRecord image changes n
   unfolding finalRecord
-  record-defective v e d p f = ap (recordIn image changes n) (sym (verdict-bad (imageOf image) v d p e f))
+  record-defective v e d p f = ap (recordIn image changes n) (sym (is-defective (imageOf image) d p (sym e ∙ f)))
 
   module _ (s : imageOf image ≡ sound (recordsOf (imageOf image))) where
     listed : (c : Changed) → changedIn image changes (recordsOf (imageOf image)) ≡ c → recordAfter c n ≡ finalRecord image changes n

@@ -1,7 +1,7 @@
 -- What a verdict of soundness tells: the records, how many at most, and how many bytes.
 use Prim.Native.Nat.{ℕ, zero, suc, _+_, _≤_}
 use mathlib.Core.Bool.{Bool, true, false, cond}
-use mathlib.Core.Path.{_≡_, refl, sym, ap, _∙_}
+use mathlib.Core.Path.{_≡_, refl, sym, ap, ap₂, _∙_}
 use mathlib.Core.List.{List, [], _∷_, reverse}
 use native.Mathlib.Omega.{arith}
 use borrow.Author.Tests.{leb-true}
@@ -12,7 +12,7 @@ use Rattle.records.specs.Record.{Record}
 use Rattle.image.specs.Image.{Image, sound, defective, Next, refused, taken, nextOf, afterNext, imageFrom, startsRight, imageOf}
 use Rattle.image.specs.Part.{recordsOf}
 use Rattle.image.specs.Place.{verdictOf}
-use Rattle.image.specs.declared.Verdict.the-variants.{Sound}
+use Rattle.image.specs.declared.Verdict.the-variants.{Sound, Defective}
 
 pub not-sound : (d p : ℕ) (records : List Record) → defective d p ≡ sound records → ⊥
 not-sound d p records e = let z : _≡_ {A = ℕ} 0 1 = cc in omega arith
@@ -20,6 +20,10 @@ not-sound d p records e = let z : _≡_ {A = ℕ} 0 1 = cc in omega arith
 pub is-sound : (i : Image) (n : ℕ) → verdictOf i ≡ Sound n → i ≡ sound (recordsOf i)
 is-sound (sound records) n e = refl
 is-sound (defective d p) n e = let z : _≡_ {A = ℕ} 0 1 = cc in absurd (omega arith)
+
+pub is-defective : (i : Image) (d p : ℕ) → verdictOf i ≡ Defective d p → i ≡ defective d p
+is-defective (sound records) d p e = absurd (let z : _≡_ {A = ℕ} 0 1 = cc in omega arith)
+is-defective (defective x y) d p e = let f : x ≡ d = cc in let g : y ≡ p = cc in ap₂ defective f g
 
 pub counted : (i : Image) (n : ℕ) → verdictOf i ≡ Sound n → length (recordsOf i) ≡ n
 counted (sound records) n e = cc

@@ -12,7 +12,7 @@ use Rattle.rows.specs.Good.{GoodEntry, AllGood, good-cons}
 use Rattle.changes.specs.Change.{sameKey, isThere}
 use Rattle.changes.specs.Rank.{rankOf}
 use Rattle.changes.proofs.Ordered.{other-way}
-use Rattle.changes.proofs.Ranks.{follows-back, there-at, rank-above, rank-at-most, rank-length}
+use Rattle.changes.proofs.Ranks.{follows-back, there-at, rank-above, rank-at-most, rank-length, no-cons}
 use Rattle.merged.specs.Held.{bytesAt, parsedFrom, entryOf, entriesAt, Recorded, Held}
 
 -- Entry i of an index
@@ -28,9 +28,6 @@ module _ (image changes index : List ℕ) (n : ℕ) (k : n ≤ length index) whe
   entry-at i h =
       drop-cons es i (entryOf (bytesAt image changes 0)) (omega (arith, count-is))
       ∙ rw (List·getD-map (λ (p : ℕ). entryOf (bytesAt image changes p)) (take n index) i 0, getD-take n index i 0 h)
-
-no-cons : (x : Entry) (rest : List Entry) → [] ≡ x ∷ rest → ⊥
-no-cons x rest e = let z : _≡_ {A = ℕ} 0 1 = cc in omega arith
 
 good-in : (i : ℕ) (es : List Entry) (x : Entry) (rest : List Entry) → AllGood es → drop i es ≡ x ∷ rest → GoodEntry x
 good-in zero [] x rest s e = absurd (no-cons x rest e)

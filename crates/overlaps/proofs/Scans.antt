@@ -23,6 +23,7 @@ use Rattle.rows.specs.Entry.{Entry, parsedOf, rowOf}
 use Rattle.rows.specs.Ordered.{AllAfter, after-cons, Ordered, ordered-cons}
 use Rattle.records.proofs.Judging.{judged-after}
 use Rattle.rows.proofs.Rows.{image-step, entry-head}
+use Rattle.changes.proofs.Ranks.{no-cons}
 use Rattle.merged.specs.Held.{bytesAt, parsedFrom, entryOf, entriesAt, Recorded, Held}
 use Rattle.overlaps.specs.Overlaps.{openIn, OpenBlocks, NestedIn, PlacedIn, Overlaps}
 use Rattle.overlaps.specs.declared.Nesting.{Nesting}
@@ -175,9 +176,6 @@ module _ (image changes : List ℕ) (earlier : List Record) (before bound : ℕ)
       by-tag false e l = step-named (leb-false _ _ e) _ 1
 
 -- The pass
-
-no-cons : (x : Entry) (rest : List Entry) → [] ≡ x ∷ rest → ⊥
-no-cons x rest e = let z : _≡_ {A = ℕ} 0 1 = cc in omega arith
 
 first-after : (p : Record) (es : List Entry) (y : Entry) (more : List Entry) → AllAfter p (parsedOf es) → es ≡ y ∷ more → follows p (y .parsed) ≡ true
 first-after p [] y more a e = absurd (no-cons y more e)

@@ -33,6 +33,3 @@ module _ (before : List Record) (tag : ℕ) (contents : List ℕ) (q : Record) (
       let x : recordOf tag contents ≡ whole q = accepted before tag contents q g .parsed in
       let y : recordOf tag contents ≡ whole r = accepted earlier tag contents r e .parsed in
       cc
-
-  pub judged-ordered : inOrder before q ≡ true
-  judged-ordered = accepted before tag contents q g .ordered

@@ -10,6 +10,7 @@ use lib.Dec.{ltb, eqb}
 use Rattle.address.specs.Number.{atMost}
 use Rattle.address.specs.Ranges.{Range, sortsAfter}
 use Rattle.address.proofs.Order.{at-most-trans, after-trans}
+use Rattle.pieces.proofs.Tests.{or-true}
 use Rattle.records.specs.Record.{Record, isBlock, rangeOf, keyOf, sortedAfter, follows}
 
 -- Texts
@@ -36,10 +37,6 @@ sorts-cases a b e = by-tests (ltb (a .first) (b .first)) (eqb (a .first) (b .fir
     by-tests false true true x y z k = inr (eqb-true _ _ y, ltb-true _ _ z)
     by-tests false true false x y z k = absurd (false≢true k)
     by-tests false false v x y z k = absurd (false≢true k)
-
-or-true : (b : Bool) → (b || true) ≡ true
-or-true true = refl
-or-true false = refl
 
 ranges-trans : (a b c : Range) → sortsAfter a b ≡ true → sortsAfter b c ≡ true → sortsAfter a c ≡ true
 unfolding sortsAfter
