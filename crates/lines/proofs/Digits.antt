@@ -7,7 +7,7 @@ use native.Mathlib.Nat.{one-le-pow, mod-lt}
 use borrow.Author.Tests.{lt-ltb, le-ltb}
 use lib.Seq.{append-snoc}
 use Rattle.io.specs.Digits.{glyph, digits, Fewest}
-use Rattle.numeral.specs.Decimal.{digitsBefore, decimalText}
+use Rattle.numeral.specs.Digits.{digitsBefore, decimalText}
 
 glyph-digit : (d : ℕ) → d < 10 → glyph d ≡ 48 + d
 glyph-digit d h = rw (lt-ltb d 10 h)

@@ -8,7 +8,7 @@ use borrow.Author.Tests.{lt-ltb, le-ltb}
 use lib.ListN.{length, take, drop, length-append, length-drop, take-append-drop}
 use lib.Seq.{take-at, length-take-le}
 use borrow.Rule.Slice.PartMut.{putMid}
-use Rattle.numeral.specs.Decimal.{decimalText}
+use Rattle.numeral.specs.Digits.{decimalText}
 use Rattle.answers.specs.declared.Answer.{Answer}
 use Rattle.answers.specs.Reply.{Reply, kindNumber, listAfter, line}
 use Rattle.answers.specs.Answered.{replyOf, Answered}

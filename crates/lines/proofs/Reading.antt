@@ -11,8 +11,8 @@ use lib.Seq.{take-at}
 use Rattle.pieces.specs.Split.{joinFirst, split}
 use Rattle.pieces.proofs.Tests.{and-left, and-right}
 use Rattle.numeral.specs.Numeral.{digitValue, areDigits, digitsFrom}
-use Rattle.numeral.specs.Decimal.{decimalText}
-use Rattle.numeral.proofs.Decimal.{decimal-digits, decimal-value}
+use Rattle.numeral.specs.Digits.{decimalText}
+use Rattle.numeral.proofs.Digits.{decimal-digits, decimal-value}
 use Rattle.answers.specs.Reply.{Reply, line}
 use Rattle.lines.specs.Line.{following, spaced, lineText, numbersIn}
 

@@ -11,8 +11,8 @@ use borrow.Rule.Slice.PartMut.{putMid}
 use Rattle.io.specs.Digits.{digits, Fewest}
 use Rattle.listing.specs.Writing.{Written}
 use Rattle.listing.proofs.Writing.{written-both}
-use Rattle.numeral.specs.Decimal.{decimalText}
-use Rattle.numeral.proofs.Decimal.{decimal-few}
+use Rattle.numeral.specs.Digits.{decimalText}
+use Rattle.numeral.proofs.Digits.{decimal-few}
 use Rattle.lines.specs.Line.{following}
 use Rattle.lines.proofs.Digits.{decimal-is}
 

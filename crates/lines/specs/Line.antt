@@ -8,7 +8,7 @@ use lib.Dec.{ltb}
 use lib.ListN.{length, take, drop}
 use Rattle.pieces.specs.Split.{split}
 use Rattle.numeral.specs.Numeral.{digitsFrom}
-use Rattle.numeral.specs.Decimal.{decimalText}
+use Rattle.numeral.specs.Digits.{decimalText}
 use Rattle.answers.specs.Reply.{Reply, listAfter, line}
 
 -- numbers as decimals, each after a space

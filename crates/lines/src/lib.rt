@@ -2,7 +2,7 @@
 ghost use Prim.Native.Nat.{_+_, _*_, _≤_};
 ghost use mathlib.Core.List.{[], _∷_};
 ghost use lib.ListN.{length, take};
-ghost use Rattle.numeral.specs.Decimal.{decimalText};
+ghost use Rattle.numeral.specs.Digits.{decimalText};
 ghost use Rattle.answers.specs.Reply.{line};
 ghost use Rattle.calls.specs.Calls.{answerOf};
 ghost use Rattle.answers.specs.Answered.{replyOf};

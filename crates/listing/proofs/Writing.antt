@@ -12,6 +12,10 @@ use Rattle.listing.specs.Writing.{Written}
 pub written-nothing : (a : List ℕ) → Written [] a a 0
 written-nothing a = record { size = refl; is = refl }
 
+-- what `put_bytes` writes
+pub written-bytes : (s : List ℕ) {a b : List ℕ} → b ≡ s ++ drop (length s) a → Written s a b (length s)
+written-bytes s e = record { size = refl; is = e }
+
 -- the buffer keeps its length
 pub written-length : {s a b : List ℕ} {m : ℕ} → Written s a b m → m ≤ length a → length b ≡ length a
 written-length {s} {a} {m = m} u h = omega (arith, u .size, ap length (u .is) ∙ length-append s (drop m a), length-drop m a)

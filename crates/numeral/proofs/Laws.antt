@@ -1,7 +1,7 @@
 -- Laws of numerals: the next byte is a digit, is none, or there is none; a number above max stays above it; a number that was read is at most max; a text with a byte that is no digit is no number.
 use Prim.Native.Nat.{ℕ, _+_, _*_, _≤_, _<_, _^_}
 use Prim.Native.Char.{code}
-use mathlib.Core.Path.{_≡_, refl}
+use mathlib.Core.Path.{_≡_, refl, sym, _∙_}
 use mathlib.Core.List.{List, [], _∷_}
 use mathlib.Core.Bool.{Bool, true, false, cond, false≢true, _&&_, _||_}
 use native.Mathlib.Omega.{arith}
@@ -116,6 +116,14 @@ module _ (base x : ℕ) (none : base ≤ digitValue x) where
           → ltb (digitValue c) base && areDigits base s ≡ false
       by-first true q h f = rw (eqb-true c x q, le-ltb (digitValue x) base none)
       by-first false q h f = rw (f h) (and-false (ltb (digitValue c) base))
+
+  -- digits hold no such byte
+  pub digits-lack : (s : List ℕ) → areDigits base s ≡ true → contains x s ≡ false
+  digits-lack s e = by-test (contains x s) refl
+    where
+      by-test : (b : Bool) → contains x s ≡ b → b ≡ false
+      by-test true q = absurd (false≢true (sym (digits-not s q) ∙ e))
+      by-test false q = refl
 
   pub numeral-not : (max : ℕ) (s : List ℕ) → contains x s ≡ true → numeral base max s ≡ Malformed
   unfolding numeral numeralFrom

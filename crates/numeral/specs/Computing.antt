@@ -2,8 +2,8 @@
 use Rattle.address.specs.Computing as Address
 use Rattle.numeral.specs.Numeral.{digitValue, areDigits, digitsFrom, numeralFrom, numeral, leadingZero, decimal, h16}
 use Rattle.numeral.specs.Escape.{isEscape, decoded, escapeFirst}
-use Rattle.numeral.specs.Decimal.{digitsBefore, decimalText}
+use Rattle.numeral.specs.Digits.{digitOf, digitsBefore, numeralText, following, spelled}
 
 unfoldable pub computing : Unit {0}
-unfolding Address.computing digitValue areDigits digitsFrom numeralFrom numeral leadingZero decimal h16 isEscape decoded escapeFirst digitsBefore decimalText
+unfolding Address.computing digitValue areDigits digitsFrom numeralFrom numeral leadingZero decimal h16 isEscape decoded escapeFirst digitOf digitsBefore numeralText following spelled
 computing = tt

@@ -1,0 +1,114 @@
+// Numbers in digits, written to the front of a lent buffer.
+ghost use mathlib.Core.Path.{_≡_};
+ghost use mathlib.Core.List.{[], _∷_};
+ghost use Prim.Native.Nat.{_≤_, _<_};
+ghost use lib.ListN.{length};
+ghost use Rattle.numeral.specs.Digits.{digitOf, numeralText, decimalText, hexText, following, spelled};
+ghost use Rattle.listing.specs.Writing.{Written};
+ghost use Rattle.digits.specs.Base.{radix};
+
+pub enum Base {
+    Decimal,
+    Hex,
+}
+
+// The digit of a value, in lower case.
+fn digit(d: u16) -> u8
+    requires { ⌜ d < 16 ⌝ }
+    ensures { λ r. ⌜ r ≡ digitOf d ⌝ }
+{
+    if d < 10 {
+        return b'0' + d as u8;
+    }
+    b'a' + (d as u8 - 10)
+}
+
+// How many digits n has to the base.
+fn count_digits(n: u16, base: u16) -> usize
+    requires { ⌜ 2 ≤ base ⌝ }
+    ensures { λ r. ⌜ r ≡ length (numeralText base n) ⌝ }
+{
+    let mut v = n;
+    let mut k: usize = 1;
+    while base <= v {
+        v = v / base;
+        k += 1;
+    }
+    k
+}
+
+// The digits of n to the base, from the last to the first. Gives how many there are.
+fn put_digits(n: u16, base: u16, text: &mut [u8]) -> usize
+    requires { ⌜ (2 ≤ base) × (base ≤ 16) × (length (numeralText base n) ≤ length (now text)) ⌝ }
+    ensures { λ r. ⌜ Written (numeralText base n) (now (text .entry)) (now (text .exit)) r ⌝ }
+{
+    let count = count_digits(n, base);
+    let mut v = n;
+    let mut i = count - 1;
+    while base <= v {
+        text[i] = digit(v % base);
+        v = v / base;
+        i -= 1;
+    }
+    text[i] = digit(v);
+    count
+}
+
+// A number in decimal digits.
+pub fn put_decimal(n: u16, text: &mut [u8]) -> usize
+    requires { ⌜ length (decimalText n) ≤ length (now text) ⌝ }
+    ensures { λ r. ⌜ Written (decimalText n) (now (text .entry)) (now (text .exit)) r ⌝ }
+{
+    put_digits(n, 10, text)
+}
+
+// A number in hex digits.
+pub fn put_hex(n: u16, text: &mut [u8]) -> usize
+    requires { ⌜ length (hexText n) ≤ length (now text) ⌝ }
+    ensures { λ r. ⌜ Written (hexText n) (now (text .entry)) (now (text .exit)) r ⌝ }
+{
+    put_digits(n, 16, text)
+}
+
+fn put_number(base: Base, n: u16, text: &mut [u8]) -> usize
+    requires { ⌜ length (numeralText (radix base) n) ≤ length (now text) ⌝ }
+    ensures { λ r. ⌜ Written (numeralText (radix base) n) (now (text .entry)) (now (text .exit)) r ⌝ }
+{
+    match base {
+        Base::Decimal => put_decimal(n, text),
+        Base::Hex => put_hex(n, text),
+    }
+}
+
+// A separator and a number.
+fn put_next(sep: u8, base: Base, n: u16, text: &mut [u8]) -> usize
+    requires { ⌜ length (following sep (radix base) (n ∷ [])) ≤ length (now text) ⌝ }
+    ensures { λ r. ⌜ Written (following sep (radix base) (n ∷ [])) (now (text .entry)) (now (text .exit)) r ⌝ }
+{
+    text[0] = sep;
+    1 + put_number(base, n, &mut text[1..])
+}
+
+// A separator and a number, for each: it is written into the rest of the text, from where the last one ended.
+fn put_following(sep: u8, base: Base, numbers: &[u16], text: &mut [u8]) -> usize
+    requires { ⌜ length (following sep (radix base) (now numbers)) ≤ length (now text) ⌝ }
+    ensures { λ r. ⌜ Written (following sep (radix base) (now (numbers .entry))) (now (text .entry)) (now (text .exit)) r ⌝ }
+{
+    let mut at: usize = 0;
+    for i in 0..numbers.len() {
+        at += put_next(sep, base, numbers[i], &mut text[at..]);
+    }
+    at
+}
+
+// Numbers with a separator between each two.
+pub fn put_spelled(sep: u8, base: Base, numbers: &[u16], text: &mut [u8]) -> usize
+    requires { ⌜ length (spelled sep (radix base) (now numbers)) ≤ length (now text) ⌝ }
+    ensures { λ r. ⌜ Written (spelled sep (radix base) (now (numbers .entry))) (now (text .entry)) (now (text .exit)) r ⌝ }
+{
+    if numbers.len() == 0 {
+        return 0;
+    }
+    let at = put_number(base, numbers[0], text);
+    at + put_following(sep, base, &numbers[1..], &mut text[at..])
+}

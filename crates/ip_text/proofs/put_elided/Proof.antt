@@ -1,0 +1,70 @@
+-- The groups on the left, and "::" with those on the right in the rest of the buffer.
+use Prim.Native.Nat.{ℕ, _+_}
+use mathlib.Core.Path.{_≡_, _∙_}
+use mathlib.Core.List.{List, _∷_, _++_}
+use native.Mathlib.Omega.{arith}
+use lib.ListN.{length, length-append}
+use Rattle.pieces.specs.Ascii.{ascii}
+use Rattle.ip_text.specs.Text.{colons}
+use Rattle.listing.proofs.Writing.{written-both, rest-length}
+use borrow.Author.Needs.{needs}
+use Rattle.ip_text.proofs.put_elided.Statement.{statement}
+use Rattle.ip_text.proofs.put_elided.Tie as tie
+use Rattle.digits.proofs.put_spelled.Reads as put-spelled-reads
+
+size : (left right : List ℕ) → length (colons left ++ (ascii "::" ++ colons right)) ≡ length (colons left) + (2 + length (colons right))
+unfolding ascii
+size left right = length-append (colons left) (ascii "::" ++ colons right) ∙ omega arith
+
+put-spelled-requires : tie.Need-put-spelled-requires
+put-spelled-requires c κs =
+    let a = c .before .before .before .before .args in
+    omega (arith, c .before .before .before .before .pre, size (a .left .now) (a .right .now))
+
+slice-aggregate-put-after : tie.Need-slice-aggregate-put-after
+slice-aggregate-put-after c = search needs
+
+sub-put-after : tie.Need-sub-put-after
+sub-put-after c =
+    let a = c .before .before .before .before .before .before .before .before .args in
+    omega (arith, c .before .before .before .before .before .before .before .before .pre, size (a .left .now) (a .right .now), c .before .before .before .put-spelled .ensures .size)
+
+part-put-after-start : tie.Need-part-put-after-start
+part-put-after-start c =
+    let a = c .before .before .before .before .before .before .before .before .args in
+    omega (arith, c .before .before .before .before .before .before .before .before .pre, size (a .left .now) (a .right .now), c .before .before .before .put-spelled .ensures .size)
+
+part-put-after-end : tie.Need-part-put-after-end
+part-put-after-end c = search needs
+
+put-after-requires : tie.Need-put-after-requires
+put-after-requires c κs =
+    let a = c .before .before .before .before .before .before .before .before .before .args in
+    rw rest-length (omega (arith, c .before .before .before .before .before .before .before .before .before .pre, size (a .left .now) (a .right .now), c .before .before .before .before .put-spelled .ensures .size))
+
+add-result : tie.Need-add-result
+add-result c =
+    let a = c .before .before .before .before .before .before .before .before .before .before .before .before .args in
+    omega (arith, c .before .before .before .before .before .before .before .before .before .before .before .before .pre, size (a .left .now) (a .right .now), c .before .before .before .before .before .before .before .put-spelled .ensures .size, c .before .before .put-after .ensures .size)
+
+same-length : tie.Need-same-length
+same-length c = search needs
+
+returns : tie.Need-returns
+unfolding ascii
+returns c =
+    written-both (c .before .before .before .before .before .before .before .put-spelled .ensures) (c .before .before .put-after .ensures)
+
+pub put-elided-spec : {M : Type 1} → statement M
+put-elided-spec =
+    tie.close
+    (tie.spec
+    put-spelled-requires
+    slice-aggregate-put-after
+    sub-put-after
+    part-put-after-start
+    part-put-after-end
+    put-after-requires
+    add-result
+    same-length
+    returns)

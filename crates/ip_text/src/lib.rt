@@ -1,0 +1,146 @@
+// The text of an address, written to the front of a lent buffer: IPv4 as four decimals, IPv6 in the form of RFC 5952.
+ghost use mathlib.Core.Path.{_≡_};
+ghost use mathlib.Core.List.{_++_};
+ghost use Prim.Native.Nat.{_+_, _≤_};
+ghost use lib.ListN.{length};
+ghost use Rattle.pieces.specs.Ascii.{ascii};
+ghost use Rattle.address.specs.Positions.{Wide};
+ghost use Rattle.numeral.specs.Digits.{spelled};
+ghost use Rattle.listing.specs.Writing.{Written};
+ghost use Rattle.ip_text.specs.Text.{colons, dotted, groupsOf, longestRun, runAt, shortened, ipv6Text, textOf};
+ghost use Rattle.digits.specs.Base.{radix};
+ghost use Rattle.ip_text.specs.Runs.{RunsOf};
+use digits::Base;
+use digits::put_spelled;
+use listing::put_bytes;
+
+// The zeros that stand first, and the longest run of zeros with its place.
+struct ZeroRuns {
+    first: usize,
+    longest: usize,
+    at: usize,
+}
+
+// Given bytes, and numbers in the rest of the text after them.
+fn put_after(front: &[u8], sep: u8, base: Base, numbers: &[u16], text: &mut [u8]) -> usize
+    requires { ⌜ length (now front) + length (spelled sep (radix base) (now numbers)) ≤ length (now text) ⌝ }
+    ensures { λ r. ⌜ Written (now (front .entry) ++ spelled sep (radix base) (now (numbers .entry))) (now (text .entry)) (now (text .exit)) r ⌝ }
+{
+    let at = front.len();
+    put_bytes(front, text);
+    at + put_spelled(sep, base, numbers, &mut text[at..])
+}
+
+// ---- an address as numbers
+
+// The four numbers of an IPv4 address.
+fn octets_of(bytes: &[u8]) -> [u16; 4]
+    requires { ⌜ length (now bytes) ≡ 4 ⌝ }
+    ensures { λ r. ⌜ r ≡ now (bytes .entry) ⌝ }
+{
+    let mut octets = [0u16; 4];
+    let mut i: usize = 0;
+    while i < 4 {
+        octets[i] = bytes[i] as u16;
+        i += 1;
+    }
+    octets
+}
+
+// The eight groups of an IPv6 address.
+fn groups_of(bytes: &[u8]) -> [u16; 8]
+    requires { ⌜ length (now bytes) ≡ 16 ⌝ }
+    ensures { λ r. ⌜ r ≡ groupsOf (now (bytes .entry)) ⌝ }
+{
+    let mut groups = [0u16; 8];
+    let mut i: usize = 0;
+    while i < 8 {
+        let high = bytes[2 * i] as u16;
+        let low = bytes[2 * i + 1] as u16;
+        groups[i] = high * 256 + low;
+        i += 1;
+    }
+    groups
+}
+
+// One pass over the groups, from the last to the first.
+fn zero_runs(groups: &[u16]) -> ZeroRuns
+    ensures { λ r. ⌜ RunsOf (now (groups .entry)) (r .first) (r .longest) (r .at) ⌝ }
+{
+    let mut first: usize = 0;
+    let mut longest: usize = 0;
+    let mut at = groups.len();
+    let mut i = groups.len();
+    while 0 < i {
+        i -= 1;
+        if groups[i] == 0 {
+            first += 1;
+        } else {
+            first = 0;
+        }
+        if longest <= first {
+            longest = first;
+            at = i;
+        }
+    }
+    ZeroRuns { first, longest, at }
+}
+
+// ---- texts
+
+// Groups, "::" and groups.
+fn put_elided(left: &[u16], right: &[u16], text: &mut [u8]) -> usize
+    requires { ⌜ length (colons (now left) ++ (ascii "::" ++ colons (now right))) ≤ length (now text) ⌝ }
+    ensures { λ r. ⌜ Written (colons (now (left .entry)) ++ (ascii "::" ++ colons (now (right .entry)))) (now (text .entry)) (now (text .exit)) r ⌝ }
+{
+    let at = put_spelled(b':', Base::Hex, left, text);
+    at + put_after(b"::", b':', Base::Hex, right, &mut text[at..])
+}
+
+// The longest run of at least two zero groups shortened.
+fn put_shortened(groups: &[u16], longest: usize, at: usize, text: &mut [u8]) -> usize
+    requires { ⌜ (longest ≡ longestRun (now groups)) × (at ≡ runAt (longestRun (now groups)) (now groups)) × (length (shortened (now groups)) ≤ length (now text)) ⌝ }
+    ensures { λ r. ⌜ Written (shortened (now (groups .entry))) (now (text .entry)) (now (text .exit)) r ⌝ }
+{
+    if longest < 2 {
+        return put_spelled(b':', Base::Hex, groups, text);
+    }
+    let rest = at + longest;
+    put_elided(&groups[..at], &groups[rest..], text)
+}
+
+// An address of sixteen bytes.
+fn put_ipv6(address: &[u8], text: &mut [u8]) -> usize
+    requires { ⌜ (length (now address) ≡ 16) × (length (ipv6Text (now address)) ≤ length (now text)) ⌝ }
+    ensures { λ r. ⌜ Written (ipv6Text (now (address .entry))) (now (text .entry)) (now (text .exit)) r ⌝ }
+{
+    let groups = groups_of(address);
+    let runs = zero_runs(&groups);
+    if runs.first == 5 {
+        if groups[5] == 65535 {
+            let octets = octets_of(&address[12..]);
+            return put_after(b"::ffff:", b'.', Base::Decimal, &octets, text);
+        }
+    }
+    put_shortened(&groups, runs.longest, runs.at, text)
+}
+
+// An address of four bytes.
+fn put_ipv4(address: &[u8], text: &mut [u8]) -> usize
+    requires { ⌜ (length (now address) ≡ 4) × (length (dotted (now address)) ≤ length (now text)) ⌝ }
+    ensures { λ r. ⌜ Written (dotted (now (address .entry))) (now (text .entry)) (now (text .exit)) r ⌝ }
+{
+    let octets = octets_of(address);
+    put_spelled(b'.', Base::Decimal, &octets, text)
+}
+
+// The text of an address of four bytes or sixteen. Gives the number of bytes written.
+pub fn put_text(address: &[u8], text: &mut [u8]) -> usize
+    requires { ⌜ Wide (length (now address)) × (length (textOf (now address)) ≤ length (now text)) ⌝ }
+    ensures { λ r. ⌜ Written (textOf (now (address .entry))) (now (text .entry)) (now (text .exit)) r ⌝ }
+{
+    if address.len() == 4 {
+        return put_ipv4(address, text);
+    }
+    put_ipv6(address, text)
+}
