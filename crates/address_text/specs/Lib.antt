@@ -1,0 +1,4 @@
+pub mod Call
+pub mod Spelling
+pub mod Computing
+pub mod Examples
