@@ -1,1 +1,4 @@
 pub mod Answers
+pub mod Reading
+pub mod Read
+pub mod RoundTrip

@@ -1,5 +1,5 @@
 mod Addresses
-mod GroupLaws
+pub mod GroupLaws
 mod Elisions
 pub mod Answers
 pub mod Foreign

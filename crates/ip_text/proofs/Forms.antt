@@ -10,7 +10,7 @@ use Rattle.pieces.specs.Ascii.{ascii}
 use Rattle.pieces.proofs.Pieces.{rest-is}
 use Rattle.pieces.proofs.Tests.{and-false}
 use Rattle.ip_text.specs.Text.{dotted, colons, groupsOf, zerosFirst, longestRun, runAt, shortened, isMapped, ipv6Text}
-use Rattle.ip_text.specs.Runs.{RunsOf}
+use Rattle.ip_text.specs.Groups.{RunsOf}
 use Rattle.ip_text.proofs.Runs.{beside-run}
 
 -- groups with their longest run, and its place

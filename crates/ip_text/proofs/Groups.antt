@@ -5,7 +5,7 @@ use mathlib.Core.List.{List, [], _∷_}
 use native.Mathlib.Omega.{arith}
 use lib.ListN.{length}
 use Rattle.address.specs.Number.{Digits, Bytes}
-use Rattle.numeral.proofs.Spelled.{digits-rest}
+use Rattle.address.proofs.Below.{digits-rest}
 use Rattle.ip_text.specs.Text.{groupsOf}
 
 -- the groups of twice so many bytes

@@ -6,25 +6,16 @@ use mathlib.Core.Bool.{Bool, true, false, cond}
 use native.Mathlib.Omega.{arith}
 use native.Mathlib.Decide.{ℕ-discrete}
 use lib.Dec.{leb}
-use lib.ListN.{length, getD, take, drop, length-append, length-take, length-drop}
-use lib.Seq.{getD-drop, getD-take}
+use lib.ListN.{length, take, drop, length-append, length-drop}
 use borrow.Author.Tests.{leb-true, eq-eqb, ne-eqb}
 use Rattle.address.specs.Number.{Digits, Bytes}
 use Rattle.address.specs.Positions.{Wide}
+use Rattle.address.proofs.Below.{digits-take, digits-drop}
 use Rattle.pieces.specs.Ascii.{ascii}
 use Rattle.numeral.proofs.Spelled.{spelled-most, spelled-bound, spelled-least}
 use Rattle.ip_text.specs.Text.{dotted, colons, groupsOf, longestRun, runAt, shortened, isMapped, ipv6Text, textOf}
 use Rattle.ip_text.proofs.Groups.{groups-count, groups-below}
 use Rattle.ip_text.proofs.Runs.{beside-run}
-
--- of numbers below a bound, the first and those behind them
-pub digits-take : (base n : ℕ) (s : List ℕ) → Digits base s → Digits base (take n s)
-digits-take base n s d i h =
-    let l = length-take n s in
-    rw (getD-take n s i 0 (omega arith)) (d i (omega arith))
-
-pub digits-drop : (base n : ℕ) (s : List ℕ) → Digits base s → Digits base (drop n s)
-digits-drop base n s d i h = rw (getD-drop n s i 0) (d (n + i) (omega (arith, length-drop n s)))
 
 pub dotted-most : (a : List ℕ) → Bytes a → length a ≡ 4 → length (dotted a) ≤ 15
 dotted-most [] b e = absurd (omega arith)

@@ -9,7 +9,7 @@ use lib.ListN.{length, getD, take, drop, replicate, length-append, length-drop, 
 use lib.Seq.{drop-length, drop-drop, drop-cons}
 use borrow.Author.Tests.{le-leb, lt-leb, leb-true, leb-false, eq-eqb, ne-eqb, eqb-true}
 use Rattle.ip_text.specs.Text.{zerosFirst, longestRun, runAt}
-use Rattle.ip_text.specs.Runs.{RunsOf}
+use Rattle.ip_text.specs.Groups.{RunsOf}
 
 -- ---- the run of zeros
 

@@ -1,22 +1,19 @@
 -- A table of cases: addresses and their texts, those of RFC 5952 and of the request among them.
-use Prim.Native.Nat.{ℕ, _/_, _%_}
+use Prim.Native.Nat.{ℕ}
 use Prim.Native.String.{String}
 use mathlib.Core.Path.{_≡_, refl}
 use mathlib.Core.List.{List, [], _∷_, map}
 use lib.ListN.{length, replicate}
 use Rattle.pieces.specs.Ascii.{ascii}
 use Rattle.ip_text.specs.Text.{textOf}
+use Rattle.ip_text.specs.Groups.{bytesOf}
 use Rattle.ip_text.specs.Computing.{computing}
-
--- an IPv6 address by its eight groups, or an IPv4 address by its four bytes
-abbrev pub bytesOf : List ℕ → List ℕ
-bytesOf [] = []
-bytesOf (g ∷ gs) = g / 256 ∷ g % 256 ∷ bytesOf gs
 
 pub record Case : Type 0 where
   pub address : List ℕ
   pub text : String
 
+-- an IPv4 address by its bytes, an IPv6 address by its groups
 abbrev pub v4 : (a b c d : ℕ) → String → Case
 v4 a b c d text = record { address = a ∷ b ∷ c ∷ d ∷ []; text = text }
 

@@ -1,4 +1,4 @@
 pub mod Text
-pub mod Runs
+pub mod Groups
 pub mod Computing
 pub mod Examples

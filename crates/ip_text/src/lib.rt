@@ -9,7 +9,7 @@ ghost use Rattle.numeral.specs.Digits.{spelled};
 ghost use Rattle.listing.specs.Writing.{Written};
 ghost use Rattle.ip_text.specs.Text.{colons, dotted, groupsOf, longestRun, runAt, shortened, ipv6Text, textOf};
 ghost use Rattle.digits.specs.Base.{radix};
-ghost use Rattle.ip_text.specs.Runs.{RunsOf};
+ghost use Rattle.ip_text.specs.Groups.{RunsOf};
 use digits::Base;
 use digits::put_spelled;
 use listing::put_bytes;

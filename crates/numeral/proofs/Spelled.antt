@@ -6,18 +6,16 @@ use mathlib.Core.Bool.{false}
 use native.Mathlib.Omega.{arith}
 use native.Mathlib.Nat.{suc-mul}
 use lib.ListN.{length, length-append}
+use borrow.Author.Tests.{ne-eqb}
 use Rattle.address.specs.Number.{Digits}
 use Rattle.address.specs.Lists.{contains}
+use Rattle.address.proofs.Below.{digits-rest}
 use Rattle.pieces.specs.Split.{split}
-use Rattle.pieces.proofs.Cuts.{split-then, split-whole}
+use Rattle.pieces.proofs.Cuts.{split-then, split-whole, lacks-both}
 use Rattle.numeral.specs.Numeral.{digitValue, digitsFrom}
 use Rattle.numeral.specs.Digits.{numeralText, following, spelled}
 use Rattle.numeral.proofs.Laws.{digits-lack}
 use Rattle.numeral.proofs.Digits.{text-digits, text-value, text-few, text-some}
-
--- of numbers below a bound, those after the first
-pub digits-rest : (base x : ℕ) (xs : List ℕ) → Digits base (x ∷ xs) → Digits base xs
-digits-rest base x xs d i h = d (suc i) (omega arith)
 
 module _ (sep base : ℕ) where
   pub following-append : (xs ys : List ℕ) → following sep base (xs ++ ys) ≡ following sep base xs ++ following sep base ys
@@ -70,6 +68,20 @@ module _ (sep base : ℕ) where
         split-spelled n [] = rw append-nil (split-whole sep (numeralText base n) (text-lacks n))
         split-spelled n (m ∷ ns) =
             split-then sep (numeralText base n) (numeralText base m ++ following sep base ns) (text-lacks n) ∙ ap (λ (ps : List (List ℕ)). numeralText base n ∷ ps) (split-spelled m ns)
+
+      -- a byte that is neither the separator nor a digit
+      module _ (x : ℕ) (no-digit : base ≤ digitValue x) (other : sep ≡ x → ⊥) where
+        following-lacks : (ns : List ℕ) → contains x (following sep base ns) ≡ false
+        unfolding following contains
+        following-lacks [] = refl
+        following-lacks (n ∷ ns) =
+            rw (ne-eqb sep x other) (lacks-both x (numeralText base n) (following sep base ns) (digits-lack base x no-digit (numeralText base n) (text-digits base low high n)) (following-lacks ns))
+
+        pub spelled-lacks : (ns : List ℕ) → contains x (spelled sep base ns) ≡ false
+        unfolding spelled contains
+        spelled-lacks [] = refl
+        spelled-lacks (n ∷ ns) =
+            lacks-both x (numeralText base n) (following sep base ns) (digits-lack base x no-digit (numeralText base n) (text-digits base low high n)) (following-lacks ns)
 
       pub values-read : (ns : List ℕ) → map (digitsFrom base 0) (map (numeralText base) ns) ≡ ns
       values-read [] = refl
