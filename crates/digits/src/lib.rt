@@ -30,7 +30,7 @@ fn count_digits(n: u16, base: u16) -> usize
 {
     let mut v = n;
     let mut k: usize = 1;
-    while base <= v {
+    while v >= base {
         v = v / base;
         k += 1;
     }

@@ -8,7 +8,7 @@ use borrow.Author.Tests.{lt-ltb, le-ltb}
 use lib.ListN.{length, take, drop, length-append, length-drop, take-append-drop}
 use lib.Seq.{take-at, length-take-le}
 use borrow.Rule.Slice.PartMut.{putMid}
-use Rattle.numeral.specs.Digits.{decimalText}
+use Rattle.numeral.specs.Digits.{decimalText, spelled}
 use Rattle.answers.specs.declared.Answer.{Answer}
 use Rattle.answers.specs.Reply.{Reply, kindNumber, listAfter, line}
 use Rattle.answers.specs.Answered.{replyOf, Answered}
@@ -18,14 +18,14 @@ use Rattle.calls.proofs.Replies.{fits, reported-all}
 use Rattle.lines.specs.Line.{following, spaced, lineText, room, textIn, Lined}
 use Rattle.listing.specs.Writing.{Written}
 use Rattle.listing.proofs.Writing.{rest-length, written-both}
-use Rattle.lines.proofs.Writing.{following-append}
+use Rattle.numeral.proofs.Spelled.{following-append}
 
 pub line-parts : (a : Answer) (records : List ℕ) → lineText (replyOf a records) ≡ spaced (line (replyOf a [])) ++ following records ++ (code "\n" ∷ [])
-unfolding lineText spaced line replyOf
+unfolding lineText spelled line replyOf
 line-parts a records =
     let head : List ℕ = a .reason ∷ kindNumber (a .kind) ∷ a .count ∷ [] in
     ap (λ (t : List ℕ). t ++ (code "\n" ∷ []))
-    (ap (λ (t : List ℕ). decimalText (a .status) ++ t) (following-append head records) ∙ sym (append-assoc (decimalText (a .status)) (following head) (following records)))
+    (ap (λ (t : List ℕ). decimalText (a .status) ++ t) (following-append 32 10 head records) ∙ sym (append-assoc (decimalText (a .status)) (following head) (following records)))
 
 module _ {places : ℕ} {reply : Reply} {a : Answer} {before after : List ℕ} (k : Consistent places reply) (h : Answered reply a before after) where
   pub reported-few : reportedOf a ≤ places

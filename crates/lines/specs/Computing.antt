@@ -1,8 +1,8 @@
 -- Opens the definitions of this crate and of those below it, for theorems that hold by computing: `unfolding computing`.
 use Rattle.numeral.specs.Computing as Numeral
 use Rattle.calls.specs.Computing as Calls
-use Rattle.lines.specs.Line.{following, spaced, lineText, numbersIn, textIn}
+use Rattle.lines.specs.Line.{lineText, numbersIn, textIn}
 
 unfoldable pub computing : Unit {0}
-unfolding Numeral.computing Calls.computing following spaced lineText numbersIn textIn
+unfolding Numeral.computing Calls.computing lineText numbersIn textIn
 computing = tt

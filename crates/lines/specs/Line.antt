@@ -8,18 +8,16 @@ use lib.Dec.{ltb}
 use lib.ListN.{length, take, drop}
 use Rattle.pieces.specs.Split.{split}
 use Rattle.numeral.specs.Numeral.{digitsFrom}
-use Rattle.numeral.specs.Digits.{decimalText}
+use Rattle.numeral.specs.Digits as Digits
 use Rattle.answers.specs.Reply.{Reply, listAfter, line}
 
 -- numbers as decimals, each after a space
-unfoldable pub following : List ℕ → List ℕ
-following [] = []
-following (n ∷ numbers) = (code " " ∷ decimalText n) ++ following numbers
+abbrev pub following : List ℕ → List ℕ
+following = Digits.following (code " ") 10
 
 -- numbers as decimals, separated by one space
-unfoldable pub spaced : List ℕ → List ℕ
-spaced [] = []
-spaced (n ∷ numbers) = decimalText n ++ following numbers
+abbrev pub spaced : List ℕ → List ℕ
+spaced = Digits.spelled (code " ") 10
 
 -- "each output line is status, reason, kind, count and the record numbers, as `200 0 2 1 0`"
 unfoldable pub lineText : Reply → List ℕ

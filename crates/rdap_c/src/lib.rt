@@ -10,7 +10,8 @@ ghost use Rattle.answers.specs.Answered.{replyOf};
 ghost use Rattle.prefixes.specs.Call.{ipRangeOf, prefixedOf, bufferAfter};
 ghost use Rattle.changes.specs.Fold.{foldOf};
 ghost use Rattle.fold.specs.Call.{outAfter};
-ghost use Rattle.rdap_c.specs.Numbers.{numbersOf, partNumbers, prefixedNumbers, foldingNumbers};
+ghost use Rattle.address_text.specs.Call.{writtenOf, textAfter};
+ghost use Rattle.rdap_c.specs.Numbers.{numbersOf, partNumbers, prefixedNumbers, foldingNumbers, writtenNumbers};
 use answers::Answer;
 use image::Which;
 use query::Relation;
@@ -165,4 +166,16 @@ pub extern "C" fn rdap_fold<'a>(
     let place = a.place;
     let offset = a.offset;
     *reply = [reason, count, defect, place, offset];
+}
+
+// The text of an address, to the front of the buffer.
+#[no_mangle]
+pub extern "C" fn rdap_address_text(address: &[u8], text: &mut [u8], reply: &mut [u32; 2])
+    ensures { λ _. ⌜ now (reply .exit) ≡ writtenNumbers (writtenOf (now (address .entry)) (length (now (text .entry)))) ⌝ }
+    ensures { λ _. ⌜ now (text .exit) ≡ textAfter (now (address .entry)) (now (text .entry)) ⌝ }
+{
+    let a = rdap::address_text(address, text);
+    let reason = a.reason;
+    let count = a.count;
+    *reply = [reason, count];
 }

@@ -4,12 +4,14 @@
 //   a address, p prefix A/L, n AS number, m N or N-M: the family's tag, first and last
 //   h handle, t name, d host name: the text
 //   H T D patterns of these, which a space and a name may follow: the form, and whether the name matches
+//   w address: its written form
 //   o decimal up to 255, g group of hex digits: the number
 //   s bytes of a path and query: whether they are allowed, and whether an escape is from %80 up
 //   x escapes: the decoded bytes
 // A line that begins with # is only repeated.
 ghost use Prim.Native.Nat.{_≤_};
 ghost use lib.ListN.{length};
+use ip::Family;
 use libc::STDIN_FILENO;
 use libc::STDOUT_FILENO;
 use name::Text;
@@ -111,6 +113,28 @@ fn say_pattern(text: Text, s: &[u8])
     }
 }
 
+// The text of an address of four bytes or sixteen.
+fn say_text(address: &[u8]) {
+    let mut text = [0u8; 39];
+    let w = address_text::address_text(address, &mut text);
+    let n = w.count as usize;
+    if n <= 39 {
+        say(&text[..n]);
+    }
+}
+
+// The address that is read, written again.
+fn say_written(s: &[u8]) {
+    let read = ip::read_address(s);
+    let bytes = read.address.bytes;
+    let family = read.family;
+    match family {
+        Family::V4 => say_text(&bytes[12..]),
+        Family::V6 => say_text(&bytes),
+        Family::Malformed => say(b"no"),
+    }
+}
+
 fn say_number(n: Number) {
     match n {
         Number::Value(v) => {
@@ -154,6 +178,7 @@ fn say_found(letter: u8, s: &[u8])
         b'H' => say_pattern(Text::Handle, s),
         b'T' => say_pattern(Text::Name, s),
         b'D' => say_pattern(Text::Host, s),
+        b'w' => say_written(s),
         b'o' => say_number(numeral::read_decimal(s, 255)),
         b'g' => say_number(numeral::read_h16(s)),
         b's' => say_bytes(s),

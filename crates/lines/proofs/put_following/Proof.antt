@@ -4,17 +4,17 @@ use mathlib.Core.Path.{_≡_, refl, _∙_}
 use native.Mathlib.Omega.{arith}
 use lib.ListN.{length, take}
 use lib.Seq.{take-length}
-use Rattle.lines.specs.Line.{following}
+use Rattle.numeral.specs.Digits.{following}
 use Rattle.listing.specs.Writing.{Written}
 use Rattle.listing.proofs.Writing.{written-nothing, rest-length}
-use Rattle.lines.proofs.Writing.{next-written}
+use Rattle.digits.proofs.Following.{next-written}
 use borrow.Author.Needs.{needs}
 use Rattle.lines.proofs.put_following.Statement.{statement}
 use Rattle.lines.proofs.put_following.Tie as tie
 
 abbrev Inv-loop : tie.InvT-loop
 Inv-loop numbers out₀ at₀ i₀ i-end out at i =
-    (i-end ≡ length numbers) × (i ≤ length numbers) × (length out ≡ length out₀) × Written (following (take i numbers)) out₀ out at × (at ≤ 11 * i)
+    (i-end ≡ length numbers) × (i ≤ length numbers) × (length out ≡ length out₀) × Written (following 32 10 (take i numbers)) out₀ out at × (at ≤ 11 * i)
 
 abbrev μ-loop : tie.MeasureT-loop
 μ-loop numbers out₀ at₀ i₀ i-end out at i = length numbers - i
@@ -54,7 +54,7 @@ loop-again : tie.Need-loop-again Inv-loop μ-loop
 loop-again c =
     let a = c .before .before .before .before .before .before .before .before .before .args in
     let l = c .before .before .before .before .before .before .loop in
-    (refl, omega arith, c .before .out .given .1 ∙ l .inv .2, next-written (a .numbers .now) (omega arith) (l .inv .3) (c .before .before .put-next .ensures .0), omega arith)
+    (refl, omega arith, c .before .out .given .1 ∙ l .inv .2, next-written 32 10 (a .numbers .now) (omega arith) (l .inv .3) (c .before .before .put-next .ensures .0), omega arith)
 
 same-length : tie.Need-same-length Inv-loop μ-loop
 same-length c = search needs

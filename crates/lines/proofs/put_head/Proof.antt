@@ -2,7 +2,7 @@
 use native.Mathlib.Omega.{arith}
 use Rattle.answers.specs.Reply.{line}
 use Rattle.answers.specs.Answered.{replyOf}
-use Rattle.lines.specs.Line.{spaced}
+use Rattle.numeral.specs.Digits.{spelled}
 use Rattle.listing.proofs.Writing.{written-both}
 use borrow.Author.Needs.{needs}
 use Rattle.lines.proofs.put_head.Statement.{statement}
@@ -36,7 +36,7 @@ same-length : tie.Need-same-length
 same-length c = search needs
 
 returns : tie.Need-returns
-unfolding spaced line replyOf
+unfolding spelled line replyOf
 returns c =
     let at-call = c .before .before .before .before .before .before .before in
     (rw (← at-call .before .before .kind-number .ensures) (written-both (at-call .put-number .ensures .0) (c .before .before .put-following .ensures .0)), omega arith)

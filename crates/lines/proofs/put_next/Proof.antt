@@ -3,7 +3,7 @@ use mathlib.Core.Path.{_∙_}
 use native.Mathlib.Omega.{arith}
 use lib.ListN.{length-set}
 use Rattle.listing.proofs.Writing.{written-nothing, written-one, written-both, rest-length}
-use Rattle.lines.proofs.Writing.{following-one}
+use Rattle.numeral.proofs.Spelled.{following-one}
 use borrow.Author.Needs.{needs}
 use Rattle.lines.proofs.put_next.Statement.{statement}
 use Rattle.lines.proofs.put_next.Tie as tie
@@ -32,7 +32,7 @@ same-length c = c .before .out .given .1 ∙ simp length-set
 returns : tie.Need-returns
 returns c =
     let a = c .before .before .before .before .before .args in
-    (rw (following-one (a .n)) (written-both (written-one 32 (omega arith) (written-nothing (a .out .now))) (c .before .before .put-number .ensures .0)), omega arith)
+    (rw (following-one 32 10 (a .n)) (written-both (written-one 32 (omega arith) (written-nothing (a .out .now))) (c .before .before .put-number .ensures .0)), omega arith)
 
 pub put-next-spec : {M : Type 1} → statement M
 put-next-spec =
