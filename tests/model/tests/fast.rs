@@ -1,7 +1,7 @@
 //! The two implementations give the same on generated inputs.
 
 use model::generate::{self, Aims, Rng};
-use model::{fast, Folded, Prefixed, Reply, MOST_PREFIXES, RELATIONS};
+use model::{fast, Counted, Folded, Reply, MOST_PREFIXES, RELATIONS};
 
 const FILL: u32 = 0xA5A5_5A5A;
 const FILL_BYTE: u8 = 0xA5;
@@ -133,7 +133,7 @@ fn same_prefixes() {
             let plain = |out: &mut [u8]| model::prefixes(&range, out);
             let count = plain(&mut []).count as usize;
             let room = generate::room(&mut rng, &range, count);
-            let expected: (Prefixed, _) = with_room(room, FILL_BYTE, plain);
+            let expected: (Counted, _) = with_room(room, FILL_BYTE, plain);
             assert_eq!(
                 with_room(room, FILL_BYTE, |out| fast::prefixes(&range, out)),
                 expected,

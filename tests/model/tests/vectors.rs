@@ -2,7 +2,7 @@
 //! with the feature `ffi`, else `src/fast.rs`. The folder is given by the
 //! variable VECTORS, else it is `../vectors` beside this package.
 
-use model::{generate, subject, Folded, Prefixed, Range, Relation, Reply, IPV4, IPV6};
+use model::{generate, subject, Counted, Folded, Range, Relation, Reply, IPV4, IPV6};
 use std::fs;
 use std::path::PathBuf;
 
@@ -20,7 +20,7 @@ struct Calls {
     handle: fn(&[u8], u32) -> &[u8],
     name_of: fn(&[u8], u32) -> &[u8],
     range: fn(&[u8], u32) -> &[u8],
-    prefixes: fn(&[u8], &mut [u8]) -> Prefixed,
+    prefixes: fn(&[u8], &mut [u8]) -> Counted,
     fold: fn(&[u8], &[u8], &mut [u8]) -> Folded,
     defect: fn(&[u8]) -> (u32, u32),
 }
@@ -55,7 +55,7 @@ const BOTH: [Calls; 2] = [
             let mut reply = [FILL; 2];
             subject::prefixes(range, out, &mut reply);
             let [reason, count] = reply;
-            Prefixed { reason, count }
+            Counted { reason, count }
         },
         fold: |image, changes, out| {
             let mut reply = [FILL; 5];
