@@ -3,7 +3,8 @@
 //! document's own sentences.
 //!
 //! `fast` is a second implementation for measuring against, `generate` makes
-//! images, paths, ranges and change files to compare implementations on.
+//! images, paths, ranges, addresses and change files to compare implementations
+//! on.
 
 pub mod fast;
 pub mod generate;
