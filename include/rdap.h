@@ -5,16 +5,17 @@
  * It needs memcpy and memset and nothing else.
  *
  * Memory. The caller owns every buffer, before, during and after a call. Nothing is allocated and no pointer is kept.
- * path, paths, image, range and changes are read only. A call writes to list, out, reply and part and to nothing else.
- * - path, paths, image, range, changes, list and out may be NULL if their length is 0, and only then; nothing is read or
- *   written through them then.
- * - reply has 7 places, of rdap_prefixes 2, of rdap_fold 5, and part has 2; none may be NULL.
- * - list, reply and part are aligned as uint32_t is. list, out, reply and part may not overlap each other or what is read:
- *   no image is folded in place. What is read may overlap, and a range may be a part of an image.
+ * path, paths, image, range, changes and address are read only. A call writes to list, out, text, reply and part and to
+ * nothing else.
+ * - path, paths, image, range, changes, address, list, out and text may be NULL if their length is 0, and only then; nothing
+ *   is read or written through them then.
+ * - reply has 7 places, of rdap_prefixes and rdap_address_text 2, of rdap_fold 5, and part has 2; none may be NULL.
+ * - list, reply and part are aligned as uint32_t is. list, out, text, reply and part may not overlap each other or what is
+ *   read: no image is folded in place. What is read may overlap, and a range or an address may be a part of an image.
  * - Buffers have the lengths that are named, and no other thread writes to them during the call.
  *
  * Calls are pure: there is no state, the result depends on the arguments alone, and no call fails, waits or sets errno.
- * Calls may run in parallel, on the same image too, if each has its own list or out and reply or part.
+ * Calls may run in parallel, on the same image too, if each has its own list, out or text and reply or part.
  * A fold needs some 95 kB of stack, a relation some 75 kB, in a batch too, any other call some 40 kB.
  */
 #ifndef RDAP_H
@@ -134,6 +135,23 @@ enum { RDAP_PREFIXES_ROOM = 4318 };
  *
  * Under 6 and 9 the whole out is unchanged. */
 void rdap_prefixes(const uint8_t *range, size_t range_len, uint8_t *out, size_t out_len, uint32_t reply[2]);
+
+/* A text of so many bytes is never too short: IPv6 needs at most 39, IPv4 at most 15. */
+enum { RDAP_ADDRESS_TEXT_ROOM = 39 };
+
+/* Writes the text of an address, as for links (S2.9). address has 4 bytes (IPv4) or 16 (IPv6), high byte first, as in an
+ * entry of rdap_prefixes or in either half of a range.
+ * IPv4 is four decimals, as 192.0.2.1. IPv6 is the form of RFC 5952: lower case, no leading zeros, the longest run of at
+ * least two zero groups shortened to "::", the first of equal ones; a dotted tail, as in ::ffff:192.0.2.1, for
+ * ::ffff:0:0/96 and for no other. No NUL follows the text.
+ * It takes no path and gives a reason without a status: reply[0] is the reason, reply[1] the count.
+ *
+ *   6  address has another length; count is 0
+ *   9  text is too short; count is the number of bytes needed
+ *   0  count is the number of bytes written; what follows them is unchanged
+ *
+ * Under 6 and 9 the whole text is unchanged. */
+void rdap_address_text(const uint8_t *address, size_t address_len, uint8_t *text, size_t text_len, uint32_t reply[2]);
 
 /* The most bytes of an image, so that an out of as many is never too short for a fold, and of a change file. */
 enum { RDAP_IMAGE_BYTES = 262144, RDAP_CHANGES_BYTES = 65536 };

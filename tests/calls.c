@@ -1,5 +1,5 @@
 /* Every function on the image of one AS block (12 to 15, handle A, name B), with and without room, and with NULL for what is empty.
- * Writes a line for each call, and one for the list or out where it matters. */
+ * Writes a line for each call, and one for the list, out or text where it matters. */
 #include <inttypes.h>
 #include <stdio.h>
 #include <string.h>
@@ -102,6 +102,51 @@ static void ranges(void)
     prefixes("no range, no bytes", NULL, 0, 0);
 }
 
+/* The reply of rdap_address_text, and a text of 42 bytes of which it is lent the first ones. */
+static void address_text(const char *name, const uint8_t *address, size_t address_len, size_t room)
+{
+    uint8_t text[42];
+    uint32_t reply[2];
+
+    memset(text, '_', 42);
+    rdap_address_text(address, address_len, room == 0 ? NULL : text, room, reply);
+    line(name, reply, 2);
+    printf("text %.42s\n", (const char *)text);
+}
+
+static void address_texts(void)
+{
+    const uint8_t four[5] = {192, 0, 2, 1}, most_of_four[4] = {255, 255, 255, 255};
+    const uint8_t runs[17] = {0x20, 1, 0x0D, 0xB8, 0, 0, 0, 0, 0, 1, 0, 0, 0, 0, 0, 1};
+    const uint8_t full[16] = {0x20, 1, 0x1D, 0xB8, 0xAB, 0xCD, 0xEF, 0x12, 0x34, 0x56, 0x78, 0x9A, 0xBC, 0xDE, 0xF0, 0x12};
+    const uint8_t mapped[16] = {0, 0, 0, 0, 0, 0, 0, 0, 0, 0, 0xFF, 0xFF, 192, 0, 2, 1};
+    const uint8_t beside[16] = {0, 0, 0, 0, 0, 0, 0, 0, 0, 0, 0xFF, 0xFE, 192, 0, 2, 1};
+    const uint8_t zeros[16] = {0};
+
+    address_text("text of IPv4", four, 4, 42);
+    address_text("9 bytes", four, 4, 9);
+    address_text("8 bytes", four, 4, 8);
+    address_text("no bytes", four, 4, 0);
+    address_text("IPv4, 15 bytes", most_of_four, 4, 15);
+    address_text("IPv4, 14 bytes", most_of_four, 4, 14);
+    address_text("text of IPv6", runs, 16, 42);
+    address_text("17 bytes", runs, 16, 17);
+    address_text("16 bytes", runs, 16, 16);
+    address_text("IPv6, 39 bytes", full, 16, RDAP_ADDRESS_TEXT_ROOM);
+    address_text("IPv6, 38 bytes", full, 16, RDAP_ADDRESS_TEXT_ROOM - 1);
+    address_text("a dotted tail", mapped, 16, 42);
+    address_text("no dotted tail", beside, 16, 42);
+    address_text("zeros, 2 bytes", zeros, 16, 2);
+    address_text("zeros, 1 byte", zeros, 16, 1);
+    address_text("zeros, no bytes", zeros, 16, 0);
+    address_text("an address of 3 bytes", four, 3, 42);
+    address_text("an address of 5 bytes", four, 5, 42);
+    address_text("an address of 15 bytes", runs, 15, 42);
+    address_text("an address of 17 bytes", runs, 17, 42);
+    address_text("no address", NULL, 0, 42);
+    address_text("no address, no bytes", NULL, 0, 0);
+}
+
 /* The reply of rdap_fold, and an out of 44 bytes of which it is lent the first ones. */
 static void fold(const char *name, size_t image_len, const uint8_t *changes, size_t changes_len, size_t room)
 {
@@ -197,6 +242,7 @@ int main(void)
     line("no image", part, 2);
     batches();
     ranges();
+    address_texts();
     folds();
     folds_refused();
     return 0;

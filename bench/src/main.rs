@@ -2,7 +2,7 @@
 //! the same run and by turns; each figure is the least of many repetitions.
 //!
 //!     bench [--shape NAME] [--kind TEXT] [--repetitions N] [--seconds T]
-//!           [--table | --over-check | --prefixes | --folds]
+//!           [--table | --over-check | --prefixes | --folds | --address-text]
 //!
 //! N repetitions (40) of every row, fewer if T seconds (100) are over before.
 //! Every call on an image checks it. The row `check` is the path `/help`, which
@@ -18,8 +18,13 @@
 //! and files of 4 to 64 KB that replace records all over it; then the largest files
 //! of additions that come before all records, each one before the last, which into
 //! 4,096 records give reason 12.
+//! `--address-text` measures the texts of addresses, beside the Rust and beside the
+//! `Display` of std's types, too: nanoseconds an address, where a turn takes 65,536
+//! of them from a row of bytes, each into the same text of 39 bytes. They are
+//! random in IPv4, and in IPv6 of five shapes and a mix of these.
 
 mod folds;
+mod texts;
 
 use folds::Input;
 use model::generate::{Draft, Rng};
@@ -31,6 +36,7 @@ use std::collections::BTreeSet;
 use std::hint::black_box;
 use std::net::{Ipv4Addr, Ipv6Addr};
 use std::time::Instant;
+use texts::Addresses;
 
 const SIZES: [usize; 5] = [256, 512, 1024, 2048, 4096];
 const SHAPES: [&str; 4] = ["mixed", "flat", "chain", "long"];
@@ -260,6 +266,8 @@ enum Call {
     Prefixes(Vec<u8>, usize),
     /// A change file.
     Fold(Vec<u8>),
+    /// A call for each of many addresses.
+    AddressTexts(Addresses),
 }
 
 impl Call {
@@ -276,13 +284,13 @@ impl Call {
             Call::Range(record) => fast::range_part(image, *record).1,
             Call::Prefixes(range, room) => fast::prefixes(range, &mut lent.out[..*room]).count,
             Call::Fold(changes) => fast::fold(image, changes, &mut lent.out).count,
+            Call::AddressTexts(addresses) => addresses.each(&mut lent.out, texts::in_fast),
         }
     }
 
     fn subject(&self, image: &[u8], lent: &mut Lent) -> u32 {
         let list = &mut lent.list;
-        let mut reply = [0; 7];
-        let mut part = [0; 2];
+        let (mut reply, mut part, mut folded) = ([0; 7], [0; 2], [0; 5]);
         match self {
             Call::Answer(path) => {
                 subject::answer(path, image, list, &mut reply);
@@ -313,10 +321,18 @@ impl Call {
                 part[1]
             }
             Call::Fold(changes) => {
-                let mut folded = [0; 5];
                 subject::fold(image, changes, &mut lent.out, &mut folded);
                 folded[1]
             }
+            Call::AddressTexts(addresses) => addresses.each(&mut lent.out, texts::in_library),
+        }
+    }
+
+    /// What std has, which is the texts of addresses.
+    fn std(&self, lent: &mut Lent) -> u32 {
+        match self {
+            Call::AddressTexts(addresses) => addresses.each(&mut lent.out, texts::in_std),
+            _ => unreachable!(),
         }
     }
 }
@@ -507,18 +523,27 @@ fn lists() -> Vec<(String, Call)> {
 
 // Measuring
 
+/// What a call in the library is measured beside.
+enum Beside {
+    /// The same call in `fast`.
+    Fast,
+    /// The same by std.
+    Std,
+    /// Another call in the library.
+    Library(Call),
+}
+
 /// One call on one image, and the least time so far of what it is measured
 /// beside and of the call in the library.
 struct Cell<'a> {
     image: &'a [u8],
     call: Call,
-    /// Another call of the library; the same call in `fast` if there is none.
-    beside: Option<Call>,
+    beside: Beside,
     least: (f64, f64),
 }
 
 impl<'a> Cell<'a> {
-    fn new(image: &'a [u8], call: Call, beside: Option<Call>) -> Cell<'a> {
+    fn new(image: &'a [u8], call: Call, beside: Beside) -> Cell<'a> {
         Cell {
             image,
             call,
@@ -536,8 +561,9 @@ impl<'a> Cell<'a> {
     fn measure(&mut self, lent: &mut Lent) {
         let (image, call) = (black_box(self.image), black_box(&self.call));
         let took = turn(self.least.0, || match &self.beside {
-            None => call.fast(image, lent),
-            Some(other) => other.subject(image, lent),
+            Beside::Fast => call.fast(image, lent),
+            Beside::Std => call.std(lent),
+            Beside::Library(other) => other.subject(image, lent),
         });
         self.least.0 = self.least.0.min(took);
         let took = turn(self.least.1, || call.subject(image, lent));
@@ -564,6 +590,7 @@ enum Print {
     OverCheck,
     Prefixes,
     Folds,
+    AddressText,
 }
 
 /// What the words on the command line ask for.
@@ -600,6 +627,7 @@ impl Options {
                 "--over-check" => options.print = Print::OverCheck,
                 "--prefixes" => options.print = Print::Prefixes,
                 "--folds" => options.print = Print::Folds,
+                "--address-text" => options.print = Print::AddressText,
                 _ => panic!("{word}: no such option"),
             }
         }
@@ -673,7 +701,10 @@ fn rows<'a>(images: &'a [Vec<u8>], options: &Options) -> Rows<'a> {
             if rows.len() == at {
                 rows.push((name, Vec::new()));
             }
-            let beside = options.over_check().then(check);
+            let beside = match options.print {
+                Print::OverCheck => Beside::Library(check()),
+                _ => Beside::Fast,
+            };
             rows[at].1.push(Cell::new(image, call, beside));
         }
     }
@@ -690,7 +721,7 @@ fn list_rows(options: &Options) -> Rows<'static> {
     lists.retain(|(name, _)| options.asks_for(name));
     let row = |(name, call): (String, Call)| {
         assert_same(&name, &call, &[]);
-        (name, vec![Cell::new(&[], call, None)])
+        (name, vec![Cell::new(&[], call, Beside::Fast)])
     };
     lists.into_iter().map(row).collect()
 }
@@ -709,7 +740,7 @@ fn fold_row(input: &Input) -> (String, Vec<Cell<'_>>) {
     subject::fold(image, changes, &mut Lent::new().out, &mut reply);
     assert_eq!(folded.numbers(), reply, "{}", input.name);
     assert_eq!(folded.reason, input.reason, "{}", input.name);
-    let besides = [None, Some(check())];
+    let besides = [Beside::Fast, Beside::Library(check())];
     let cells = besides.map(|beside| Cell::new(image, call(), beside));
     (input.name.clone(), cells.into())
 }
@@ -901,7 +932,7 @@ fn measure(tables: &mut [Rows], options: &Options) -> u32 {
 fn main() {
     let options = Options::read();
     let shapes = match options.print {
-        Print::Prefixes | Print::Folds => Vec::new(),
+        Print::Prefixes | Print::Folds | Print::AddressText => Vec::new(),
         _ => options.shapes(),
     };
     let mut inputs = match options.print {
@@ -912,6 +943,7 @@ fn main() {
     let mut tables: Vec<Rows> = match options.print {
         Print::Prefixes => vec![list_rows(&options)],
         Print::Folds => vec![fold_rows(&inputs)],
+        Print::AddressText => vec![texts::rows(&options)],
         _ => shapes
             .iter()
             .map(|(_, images)| rows(images, &options))
@@ -921,6 +953,7 @@ fn main() {
     match options.print {
         Print::Prefixes => print_prefixes(&tables[0]),
         Print::Folds => print_folds(&inputs, &tables[0]),
+        Print::AddressText => texts::print(&tables[0]),
         Print::OverCheck => print_over_check(&shapes, &tables),
         Print::Table => print_table(&shapes, &tables),
         Print::Rows => {
@@ -931,7 +964,7 @@ fn main() {
     }
     println!("{done} repetitions");
     match options.print {
-        Print::OverCheck => {}
+        Print::OverCheck | Print::AddressText => {}
         Print::Prefixes => println!("largest library/fast {:.2}", largest_ratio(&tables)),
         Print::Folds => print_fold_summary(&tables[0]),
         Print::Rows | Print::Table => print_summary(&tables),

@@ -6,11 +6,12 @@
     library.handle(image, 2)                            # b"S2"
     library.batch(["/ip/192.0.2.1", "/x"], image)       # [Answer(..), Refused(..)]
     library.record_prefixes(image, 2)                   # [IPv4Network("192.0.2.0/28")]
+    library.address_text(IPv6Address("2001:DB8:0::1"))  # "2001:db8::1"
     changes = limpetvane.Changes().remove_entity("E1").add_entity("E2", "Ada L")
     library.fold(image, changes)                        # the bytes of the final image
 
 A refusal is raised as Refused, with its reason and status; that of a path in a batch is a value in the list.
-That of a range or of a fold, which has no status, is raised as RangeRefused or FoldRefused.
+That of a range, an address or a fold, which has no status, is raised as RangeRefused, AddressRefused or FoldRefused.
 Calls are pure and may run in threads.
 """
 import ctypes
@@ -25,6 +26,8 @@ RECORDS = 4096
 PATHS = 64
 #: The prefixes of a range take at most so many bytes: 254 of IPv6, of 17 bytes each.
 PREFIXES_ROOM = 4318
+#: The text of an address takes at most so many bytes.
+ADDRESS_TEXT_ROOM = 39
 #: An image has at most so many bytes, so a room of so many is never too short for a fold.
 IMAGE_BYTES = 262144
 #: A change file has at most so many bytes.
@@ -96,9 +99,8 @@ class Refused(Exception):
         return hash(self.args)
 
 
-class RangeRefused(Exception):
-    """A refusal of a range, which has a reason and no status: 6 if first is above last, 9 if there is too little room.
-    count is the number of prefixes needed under reason 9."""
+class _Counted(Exception):
+    """A refusal that has a reason, a count and no status."""
 
     def __init__(self, reason, count):
         super().__init__(reason, count)
@@ -106,6 +108,16 @@ class RangeRefused(Exception):
 
     def __str__(self):
         return f"reason {self.reason}"
+
+
+class RangeRefused(_Counted):
+    """A refusal of a range, which has a reason and no status: 6 if first is above last, 9 if there is too little room.
+    count is the number of prefixes needed under reason 9."""
+
+
+class AddressRefused(_Counted):
+    """A refusal of an address, which has a reason and no status: 6 if it has neither 4 nor 16 bytes, 9 if there is too little room.
+    count is the number of bytes needed under reason 9."""
 
 
 class FoldRefused(Exception):
@@ -235,10 +247,13 @@ class Library:
         for function in self._parts:
             function.argtypes = bytes_in + [ctypes.c_uint32, ctypes.POINTER(ctypes.c_uint32)]
         self._prefixes = library.rdap_prefixes
-        self._prefixes.argtypes = bytes_in + bytes_out
+        self._address_text = library.rdap_address_text
+        for function in (self._prefixes, self._address_text):
+            function.argtypes = bytes_in + bytes_out
         self._fold = library.rdap_fold
         self._fold.argtypes = bytes_in + bytes_in + bytes_out
-        for function in (self._answer, self._batch, *self._relations.values(), *self._parts, self._prefixes, self._fold):
+        for function in (self._answer, self._batch, *self._relations.values(), *self._parts,
+                         self._prefixes, self._address_text, self._fold):
             function.restype = None
 
     def answer(self, path: Union[str, bytes], image: bytes, places: int = RECORDS) -> Answer:
@@ -296,6 +311,14 @@ class Library:
             raise ValueError(f"record {record} is an AS block")
         return self._networks(image[span], PREFIXES_ROOM)
 
+    def address_text(self, address: Union[Address, bytes], room: int = ADDRESS_TEXT_ROOM) -> str:
+        """The text of an address, or of its 4 or 16 bytes: IPv4 as four decimals, IPv6 in the form of RFC 5952, with a dotted tail
+        for ::ffff:0:0/96 and for no other. AddressRefused has reason 6 for other bytes, and 9 with fewer bytes of room than the text
+        takes. Other types raise TypeError, and an address with a scope (fe80::1%eth0) ValueError: its text would lose it."""
+        packed = _packed(address) if type(address) in (IPv4Address, IPv6Address) else bytes(memoryview(address))
+        text, count = self._written(self._address_text, packed, room, AddressRefused)
+        return text[:count].decode("ascii")
+
     def fold(self, image: bytes, changes: Union[bytes, Changes], room: int = IMAGE_BYTES) -> bytes:
         """Folds a change file into an image and gives the final image, in which records may have other numbers. FoldRefused has
         reason 2, 11 or 12, or 9 with fewer bytes of room than the final image takes."""
@@ -331,13 +354,19 @@ class Library:
         image = bytes(image)
         return image[self._span(function, image, record)]
 
-    def _networks(self, bounds, room):
-        """The prefixes of a range, as the bytes of its first and last."""
+    @staticmethod
+    def _written(function, given, room, refused):
+        """The bytes and the count of a call on a range or an address."""
         out, reply = (ctypes.c_char * room)(), _Pair()
-        self._prefixes(bounds, len(bounds), out, room, reply)
+        function(given, len(given), out, room, reply)
         reason, count = reply
         if reason != 0:
-            raise RangeRefused(reason, count)
+            raise refused(reason, count)
+        return out, count
+
+    def _networks(self, bounds, room):
+        """The prefixes of a range, as the bytes of its first and last."""
+        out, count = self._written(self._prefixes, bounds, room, RangeRefused)
         width = len(bounds) // 2
         network = IPv4Network if width == 4 else IPv6Network
         entries = out[:count * (width + 1)]
@@ -374,9 +403,14 @@ def _bounds(first, last):
     """The bytes of a range of addresses."""
     if {type(first), type(last)} not in ({IPv4Address}, {IPv6Address}):
         raise TypeError("first and last are not two IPv4Address or two IPv6Address")
-    if any(getattr(address, "scope_id", None) is not None for address in (first, last)):
+    return _packed(first) + _packed(last)
+
+
+def _packed(address):
+    """The bytes of an address."""
+    if getattr(address, "scope_id", None) is not None:
         raise ValueError("an address with a scope")
-    return first.packed + last.packed
+    return address.packed
 
 
 def _network(network):

@@ -5,9 +5,10 @@ import pickle
 import random
 import unittest
 from itertools import accumulate
-from ipaddress import IPv4Address, IPv4Interface, IPv4Network, IPv6Address, IPv6Network, summarize_address_range
+from ipaddress import IPv4Address, IPv4Interface, IPv4Network, IPv6Address, IPv6Network, ip_address, summarize_address_range
 
-from limpetvane import CHANGES_BYTES, IMAGE_BYTES, PATHS, RECORDS, Answer, Changes, FoldRefused, Kind, Library, RangeRefused, Refused, Relation, Tag
+from limpetvane import ADDRESS_TEXT_ROOM, CHANGES_BYTES, IMAGE_BYTES, PATHS, RECORDS
+from limpetvane import AddressRefused, Answer, Changes, FoldRefused, Kind, Library, RangeRefused, Refused, Relation, Tag
 
 LIBRARY = Library(os.environ["RDAP_SO"])
 VECTORS = pathlib.Path(__file__).resolve().parents[2] / "tests" / "vectors"
@@ -60,6 +61,17 @@ class Calls(unittest.TestCase):
             self.assertEqual(len(paths), len(expected))
             for path, wanted in zip(paths, expected):
                 self.assertEqual(line(lambda: LIBRARY.answer(path, image)), wanted, (file, path))
+
+    def test_answers(self):
+        for change, calls, reasons in (("05", 14, {0, 8}), ("06", 17, {0})):
+            asked = list(rows(change, "rdap_answer"))
+            for image, path, places, reply, output in asked:
+                answer = value(LIBRARY.answer, column(change, path), image, int(places))
+                if reply[1] == 0:
+                    self.assertEqual(answer, Answer(reply[2], reply[3], [] if output == "-" else list(map(int, output.split()))))
+                else:
+                    self.assertEqual(answer, Refused(reply))
+            self.assertEqual((len(asked), {reply[1] for _, _, _, reply, _ in asked}), (calls, reasons))
 
     def test_relations(self):
         for row in (VECTORS / "relations.tsv").read_text().split("\n")[:-1]:
@@ -278,6 +290,103 @@ class Prefixes(unittest.TestCase):
         self.assertEqual((str(refusal), pickle.loads(pickle.dumps(refusal)).args), ("reason 9", (9, 62)))
 
 
+def groups(rng):
+    """The groups of an IPv6 address, of any value or small: some or most of them zero, two runs of zeros of one length, or none."""
+    top = rng.choice((1, 9, 0xF, 0xFF, 0xFFF, 0xFFFF))
+    found = [rng.randint(1, top) for _ in range(8)]
+    sort = rng.randrange(4)
+    if sort < 2:
+        return [group * (rng.random() < (0.5, 0.85)[sort]) for group in found]
+    if sort == 2:
+        length = rng.randint(1, 3)
+        first = rng.randint(0, 7 - 2 * length)
+        second = rng.randint(first + length + 1, 8 - length)
+        for at in range(length):
+            found[first + at] = found[second + at] = 0
+    return found
+
+
+#: What the first 96 bits of an address may be that has IPv4 inside, and those beside ::ffff:0:0/96.
+STARTS = (0, 0xFFFF, 0xFFFE, 0x10000, 0xFFFF0000, 0x64FF9B << 64, 1 << 80 | 0xFFFF)
+
+
+def ipv6(rng):
+    """An IPv6 address: anything, by groups, or with IPv4 inside."""
+    sort = rng.randrange(8)
+    if sort == 0:
+        return IPv6Address(rng.getrandbits(128))
+    if sort < 6:
+        return IPv6Address(b"".join(group.to_bytes(2, "big") for group in groups(rng)))
+    tail = rng.choice((rng.getrandbits(32), rng.getrandbits(8), rng.getrandbits(16) << 16))
+    return IPv6Address((0xFFFF if sort == 6 else rng.choice(STARTS)) << 32 | tail)
+
+
+class Texts(unittest.TestCase):
+    def refused(self, address, room=ADDRESS_TEXT_ROOM):
+        with self.assertRaises(AddressRefused) as caught:
+            LIBRARY.address_text(address, room)
+        return caught.exception.reason, caught.exception.count
+
+    def test_vectors(self):
+        seen = []
+        for address, _, room, (reason, count), output in rows("06", "rdap_address_text"):
+            seen.append(reason)
+            if reason != 0:
+                self.assertEqual(self.refused(address, int(room)), (reason, count), address)
+                continue
+            text = LIBRARY.address_text(address, int(room))
+            self.assertEqual((text.encode(), len(text)), (column("06", output), count))
+            self.assertEqual(LIBRARY.address_text(ip_address(address), int(room)), text)
+        self.assertEqual((len(seen), set(seen)), (518, {0, 6, 9}))
+
+    def test_peer(self):
+        """As ipaddress writes it, but for ::ffff:0:0/96, where it has a dotted tail from Python 3.13 on and none before."""
+        rng, mapped = random.Random(6), 0
+        for _ in range(100000):
+            address = ipv6(rng)
+            text = LIBRARY.address_text(address)
+            if address.ipv4_mapped is None:
+                self.assertEqual(text, address.compressed)
+                continue
+            high, low = divmod(int(address) & 0xFFFFFFFF, 0x10000)
+            self.assertEqual(text, f"::ffff:{address.ipv4_mapped}")
+            self.assertIn(address.compressed, (text, f"::ffff:{high:x}:{low:x}"))
+            mapped += 1
+        self.assertGreater(mapped, 10000)
+        for number in (rng.getrandbits(32) & rng.choice((0xFFFFFFFF, 0xFF0F000F, 0x0100FF63)) for _ in range(100000)):
+            self.assertEqual(LIBRARY.address_text(IPv4Address(number)), str(IPv4Address(number)))
+
+    def test_links(self):
+        """The ends of each network, asked for by their texts, are held by the network that answers."""
+        for record in range(16):
+            for address in bounds(LIBRARY.range(CAMPUS, record)):
+                answer = LIBRARY.answer(f"/ip/{LIBRARY.address_text(address)}", CAMPUS)
+                first, last = bounds(LIBRARY.range(CAMPUS, answer.records[0]))
+                self.assertTrue(first <= address <= last, address)
+
+    def test_rooms(self):
+        for address, size in ((IPv4Address("255.255.255.255"), 15), (IPv6Address(2 ** 128 - 1), ADDRESS_TEXT_ROOM), (IPv6Address(0), 2)):
+            self.assertEqual(len(LIBRARY.address_text(address)), size)
+            self.assertEqual(LIBRARY.address_text(address, size), LIBRARY.address_text(address))
+            for room in (size - 1, 0):
+                self.assertEqual(self.refused(address, room), (9, size))
+
+    def test_wrong_arguments(self):
+        for length in (0, 1, 3, 5, 15, 17, 32):
+            self.assertEqual(self.refused(bytes(length)), (6, 0))
+        for address in (bytearray(4), memoryview(bytes(4))):
+            self.assertEqual(LIBRARY.address_text(address), "0.0.0.0")
+        for address in (4, None, "192.0.2.1", IPv4Interface("192.0.2.1/24"), IPv4Network("192.0.2.0/24")):
+            with self.assertRaises(TypeError):
+                LIBRARY.address_text(address)
+        with self.assertRaisesRegex(ValueError, "scope"):
+            LIBRARY.address_text(IPv6Address("fe80::1%eth0"))
+        with self.assertRaises(ValueError):
+            LIBRARY.address_text(bytes(4), -1)
+        refusal = AddressRefused(9, 15)
+        self.assertEqual((str(refusal), pickle.loads(pickle.dumps(refusal)).args), ("reason 9", (9, 15)))
+
+
 def fields(text):
     """The fields of a row of fields, as tag and contents."""
     found = []
@@ -344,16 +453,6 @@ class Folds(unittest.TestCase):
             else:
                 self.assertEqual(refusal(image, file, room=room).args[:5], reply)
         self.assertEqual(seen, {0, 2, 9, 11, 12})
-
-    def test_answers(self):
-        asked = list(rows("05", "rdap_answer"))
-        for image, path, places, reply, output in asked:
-            answer = value(LIBRARY.answer, column("05", path), image, int(places))
-            if reply[1] == 0:
-                self.assertEqual(answer, Answer(reply[2], reply[3], [] if output == "-" else list(map(int, output.split()))))
-            else:
-                self.assertEqual(answer, Refused(reply))
-        self.assertEqual({reply[1] for _, _, _, reply, _ in asked}, {0, 8})
 
     def test_built_again(self):
         seen = 0

@@ -1,29 +1,26 @@
 /* prefixes PATH IMAGE: the CIDR prefixes of the networks that answer a path, as for a router's filter.
  * Writes a line for each prefix: the handle of its network, then the prefix. A refused path and an answer that is no IP network
  * (an AS block, a domain) are told on standard error, and nothing is written: the records of an answer are all networks or none is. */
-#include <arpa/inet.h>
-
 #include "ask.h"
 
 /* Writes the prefixes of a network; 0 if the record is none. */
 static int print_prefixes(uint32_t record)
 {
-    uint8_t entries[RDAP_PREFIXES_ROOM];
-    uint32_t handle[2], range[2], prefixed[2];
+    uint8_t entries[RDAP_PREFIXES_ROOM], text[RDAP_ADDRESS_TEXT_ROOM];
+    uint32_t handle[2], range[2], prefixed[2], written[2];
 
     rdap_range(image, length, record, range);
     if (range[1] == 0 || image[range[0] - 6] == RDAP_AS_BLOCK) /* its 8 bytes would be read as IPv4 */
         return 0;
     rdap_handle(image, length, record, handle);
-    /* Never refused: the range of a sound image, and room for the most prefixes. */
+    /* Neither is ever refused: the range of a sound image and its addresses, room for the most prefixes and the longest text. */
     rdap_prefixes(image + range[0], range[1], entries, sizeof entries, prefixed);
     size_t width = range[1] / 2;
     for (uint32_t i = 0; i < prefixed[1]; i++) {
         const uint8_t *entry = entries + i * (width + 1);
-        char address[INET6_ADDRSTRLEN];
-        inet_ntop(width == 4 ? AF_INET : AF_INET6, entry, address, sizeof address);
+        rdap_address_text(entry, width, text, sizeof text, written);
         print_part(handle);
-        printf(" %s/%d\n", address, entry[width]);
+        printf(" %.*s/%d\n", (int)written[1], (const char *)text, entry[width]);
     }
     return 1;
 }

@@ -17,6 +17,9 @@ pub const PATHS: usize = 64;
 /// The prefixes of a range take at most so many bytes: 254 of IPv6, of 17 bytes each.
 pub const PREFIXES_ROOM: usize = 4318;
 
+/// The text of an address takes at most so many bytes.
+pub const ADDRESS_TEXT_ROOM: usize = 39;
+
 /// An image has at most so many bytes, so a buffer of so many is never too short for a fold.
 pub const IMAGE_BYTES: usize = 262_144;
 
@@ -127,6 +130,26 @@ impl fmt::Display for NoPrefixes {
 
 impl std::error::Error for NoPrefixes {}
 
+/// Why there is no text: an address is refused with a reason and no status.
+#[derive(Clone, Copy, Debug, PartialEq, Eq)]
+pub enum NoText {
+    /// Reason 6: neither 4 nor 16 bytes.
+    NoAddress,
+    /// Reason 9: too little room for so many bytes.
+    Room(usize),
+}
+
+impl fmt::Display for NoText {
+    fn fmt(&self, f: &mut fmt::Formatter) -> fmt::Result {
+        match self {
+            NoText::NoAddress => write!(f, "reason 6: no address of 4 or 16 bytes"),
+            NoText::Room(count) => write!(f, "reason 9: {count} bytes are needed"),
+        }
+    }
+}
+
+impl std::error::Error for NoText {}
+
 /// A refusal of a fold, which has a reason and no status: 2 if the image is defective, 11 if a change is at fault, 12 if the
 /// final image would be defective, 9 if there is too little room. Under 2 and 12 `defect` and `place` say how; under 11 `offset`
 /// is where in the file the change stands, and 0 if the file is too long; under 9 `count` is the number of bytes needed.
@@ -158,6 +181,7 @@ impl std::error::Error for FoldRefusal {}
 
 type Ask = unsafe extern "C" fn(*const u8, usize, u32, *mut u32, usize, *mut [u32; 7]);
 type Find = unsafe extern "C" fn(*const u8, usize, u32, *mut [u32; 2]);
+type Write = unsafe extern "C" fn(*const u8, usize, *mut u8, usize, *mut [u32; 2]);
 
 extern "C" {
     fn rdap_answer(path: *const u8, path_len: usize, image: *const u8, image_len: usize, list: *mut u32, list_len: usize, reply: *mut [u32; 7]);
@@ -170,6 +194,7 @@ extern "C" {
     fn rdap_name(image: *const u8, image_len: usize, record: u32, part: *mut [u32; 2]);
     fn rdap_range(image: *const u8, image_len: usize, record: u32, part: *mut [u32; 2]);
     fn rdap_prefixes(range: *const u8, range_len: usize, out: *mut u8, out_len: usize, reply: *mut [u32; 2]);
+    fn rdap_address_text(address: *const u8, address_len: usize, text: *mut u8, text_len: usize, reply: *mut [u32; 2]);
     fn rdap_fold(image: *const u8, image_len: usize, changes: *const u8, changes_len: usize, out: *mut u8, out_len: usize, reply: *mut [u32; 5]);
 }
 
@@ -311,14 +336,19 @@ pub fn range(image: &[u8], record: u32) -> &[u8] {
     &image[span(rdap_range, image, record)]
 }
 
+/// The reason and the count of a call on a range or an address.
+fn written(write: Write, given: &[u8], out: &mut [u8]) -> [usize; 2] {
+    let mut reply = [0; 2];
+    // As above; the reply has two places.
+    unsafe { write(given.as_ptr(), given.len(), out.as_mut_ptr(), out.len(), &mut reply) };
+    reply.map(|number| number as usize)
+}
+
 /// Writes the prefixes that together hold exactly the addresses of a range, 8 or 32 bytes, ascending; no shorter list does.
 /// An entry is the address in 4 or 16 bytes, then its length in one; the rest of the bytes is unchanged, and all of them on a refusal.
 /// Gives the number of prefixes.
 pub fn prefixes_into(range: &[u8], out: &mut [u8]) -> Result<usize, NoPrefixes> {
-    let mut reply = [0; 2];
-    // As above; the reply has two places.
-    unsafe { rdap_prefixes(range.as_ptr(), range.len(), out.as_mut_ptr(), out.len(), &mut reply) };
-    match reply.map(|number| number as usize) {
+    match written(rdap_prefixes, range, out) {
         [0, count] => Ok(count),
         [9, count] => Err(NoPrefixes::Room(count)),
         _ => Err(NoPrefixes::NoRange),
@@ -369,6 +399,23 @@ pub fn record_prefixes(image: &[u8], record: u32) -> Result<Vec<Prefix>, NoPrefi
         return Err(NoPrefixes::NoNetwork);
     }
     prefixes_of(&image[range])
+}
+
+/// Writes the text of an address, 4 or 16 bytes: IPv4 as four decimals, IPv6 in the form of RFC 5952, with a dotted tail for
+/// ::ffff:0:0/96 and for no other. The rest of the bytes is unchanged, and all of them on a refusal. Gives the number of bytes written.
+pub fn address_text_into(address: &[u8], text: &mut [u8]) -> Result<usize, NoText> {
+    match written(rdap_address_text, address, text) {
+        [0, count] => Ok(count),
+        [9, count] => Err(NoText::Room(count)),
+        _ => Err(NoText::NoAddress),
+    }
+}
+
+/// The text of an address. It is never refused: an address has 4 or 16 bytes, and there is room for the longest text.
+pub fn address_text(address: impl Into<IpAddr>) -> String {
+    let mut text = [0; ADDRESS_TEXT_ROOM];
+    let count = address_text_into(&octets(address.into()), &mut text).expect("an address has a text");
+    text[..count].iter().map(|byte| char::from(*byte)).collect()
 }
 
 /// Folds a change file into an image. The final image goes to the first of the bytes, the rest is unchanged, and all of them on a

@@ -1,7 +1,7 @@
 //! Change files folded into images, and made by `Changes`.
 mod common;
 
-use common::{column, each_row, folder, numbers};
+use common::{column, each_row, folder};
 use limpetvane::*;
 use std::fs;
 use std::net::IpAddr;
@@ -113,19 +113,6 @@ fn vectors() {
         assert!(out == wanted, "{}", row[8]);
     });
     assert!(seen > 400, "{seen}");
-}
-
-#[test]
-fn answers() {
-    let seen = each_row("05", "rdap_answer", |row, wanted| {
-        let (image, path) = (column("05", row[1]), column("05", row[2]));
-        let mut list = vec![7; row[3].parse().unwrap()];
-        match answer_into(&path, &image, &mut list) {
-            Ok((_, count)) => assert_eq!((0, &list[..count]), (wanted[1], &numbers(row[5])[..]), "{}", row[8]),
-            Err(refusal) => assert_eq!((refusal.status, refusal.reason), (wanted[0], wanted[1]), "{}", row[8]),
-        }
-    });
-    assert_eq!(seen, 14);
 }
 
 #[test]

@@ -1,7 +1,7 @@
 //! The vectors of tests/vectors and the image of S13.3, through the safe functions.
 mod common;
 
-use common::{column, each_row, folder};
+use common::{column, each_row, folder, numbers};
 use limpetvane::*;
 use std::fs;
 use std::net::IpAddr;
@@ -66,6 +66,22 @@ fn vectors() {
             assert_eq!(line(answer(path, image)), wanted, "{} {}", file.display(), String::from_utf8_lossy(path));
         }
     });
+}
+
+/// The answers in the vectors of the changes.
+#[test]
+fn answers() {
+    for (change, calls) in [("05", 14), ("06", 17)] {
+        let seen = each_row(change, "rdap_answer", |row, wanted| {
+            let (image, path) = (column(change, row[1]), column(change, row[2]));
+            let mut list = vec![7; row[3].parse().unwrap()];
+            match answer_into(&path, &image, &mut list) {
+                Ok((_, count)) => assert_eq!((0, &list[..count]), (wanted[1], &numbers(row[5])[..]), "{}", row[8]),
+                Err(refusal) => assert_eq!((refusal.status, refusal.reason), (wanted[0], wanted[1]), "{}", row[8]),
+            }
+        });
+        assert_eq!(seen, calls);
+    }
 }
 
 #[test]

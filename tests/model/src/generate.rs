@@ -1,4 +1,4 @@
-//! Images, paths, batches of paths, ranges and change files to compare
+//! Images, paths, batches of paths, ranges, addresses and change files to compare
 //! implementations on, made from a seed.
 //!
 //! Sound images have many shapes; damaged ones start from a sound one. Paths
@@ -161,12 +161,13 @@ fn field(tag: u8, contents: &[u8]) -> Vec<u8> {
 
 /// The contents of field 20 in a record of this tag.
 pub fn ends(tag: u8, range: Range) -> Vec<u8> {
+    [octets(tag, range.first), octets(tag, range.last)].concat()
+}
+
+/// The bytes of an address or number of the family of this tag.
+pub fn octets(tag: u8, address: u128) -> Vec<u8> {
     let skipped = if tag == IPV6 { 0 } else { 12 };
-    [
-        &range.first.to_be_bytes()[skipped..],
-        &range.last.to_be_bytes()[skipped..],
-    ]
-    .concat()
+    address.to_be_bytes()[skipped..].to_vec()
 }
 
 pub fn encode(drafts: &[Draft]) -> Vec<u8> {
@@ -955,8 +956,8 @@ pub fn room(rng: &mut Rng, range: &[u8], count: usize) -> usize {
     }
 }
 
-/// A length in bytes for a final image of so many.
-pub fn final_room(rng: &mut Rng, bytes: usize) -> usize {
+/// A length in bytes for a final image or a text of so many.
+pub fn byte_room(rng: &mut Rng, bytes: usize) -> usize {
     match rng.below(4) {
         0 => bytes + rng.below(300),
         1 => rng.below(bytes + 1),
@@ -1057,6 +1058,65 @@ fn draft_range(rng: &mut Rng, aims: &Aims, family: u8) -> Range {
     let (first, last) = (first.min(last), first.max(last).min(most));
     Range { first, last }
 }
+
+// Addresses
+
+/// The bytes of an address; now and then of a length that is no family's.
+pub fn address(rng: &mut Rng, aims: &Aims) -> Vec<u8> {
+    let family = *rng.pick(&[IPV4, IPV6, IPV6]);
+    let address = match rng.below(4) {
+        0 => {
+            let block = aims.block(rng, family);
+            near(rng, block, family)
+        }
+        _ => draft_address(rng, family),
+    };
+    let mut bytes = octets(family, address);
+    match rng.below(24) {
+        0 => bytes.resize(rng.below(41), *rng.pick(&[0, 1, 0xFF])),
+        1 => bytes.resize(*rng.pick(&[0, 3, 5, 8, 15, 17, 20, 32]), 0),
+        _ => {}
+    }
+    bytes
+}
+
+/// An address by its groups, of 16 bits or, in IPv4, of 8: of any value, small,
+/// zero or all ones.
+fn draft_address(rng: &mut Rng, family: u8) -> u128 {
+    let (groups, bits) = if family == IPV6 { (8, 16) } else { (4, 8) };
+    // of so many groups one is zero
+    let zeros = rng.between(2, 5);
+    let address = (0..groups).fold(0, |address, _| {
+        let group = match rng.below(6) {
+            _ if rng.once_in(zeros) => 0,
+            0 => u64::MAX,
+            // of each number of digits, and about their borders
+            1 => 1 << rng.below(bits),
+            2 => (1 << rng.below(bits)) - 1,
+            3 => *rng.pick(&[9, 10, 99, 100, 255]),
+            _ => rng.word64() >> rng.below(64),
+        };
+        address << bits | u128::from(group & ((1 << bits) - 1))
+    });
+    match (family, rng.below(8)) {
+        (IPV6, 0) => 0xFFFF << 32 | address & 0xFFFF_FFFF,
+        (IPV6, 1) => rng.pick(&NOT_MAPPED) << 32 | address & 0xFFFF_FFFF,
+        // about the ends of ::ffff:0:0/96 and of ::/96
+        (IPV6, 2) => (rng.pick(&[0xFFFF, 0x1_0000, 1]) << 32) - *rng.pick(&[0, 1]),
+        _ => address,
+    }
+}
+
+/// The first 96 bits of addresses that have no dotted tail, though some have IPv4
+/// inside and others are nearly ::ffff:0:0/96.
+const NOT_MAPPED: [u128; 6] = [
+    0,
+    0x64_FF9B << 64,
+    0xFFFE,
+    0x1_FFFF,
+    0xFFFF << 16,
+    1 << 80 | 0xFFFF,
+];
 
 // Change files
 

@@ -3,7 +3,8 @@
 //! document's own sentences.
 //!
 //! `fast` is a second implementation for measuring against, `generate` makes
-//! images, paths, ranges and change files to compare implementations on.
+//! images, paths, ranges, addresses and change files to compare implementations
+//! on.
 
 pub mod fast;
 pub mod generate;
@@ -18,6 +19,8 @@ pub const LONGEST_IMAGE: usize = 262_144;
 pub const MOST_RECORDS: usize = 4096;
 /// "IPv4 never needs more than 62 prefixes [...], IPv6 never more than 254"
 pub const MOST_PREFIXES: usize = 254;
+/// "At most 39 bytes"
+pub const LONGEST_TEXT: usize = 39;
 /// "A change file is a row of fields, too, at most 65,536 bytes of them."
 pub const LONGEST_CHANGES: usize = 65_536;
 /// "It starts with the bytes 01 00 01 01 (edition 1)."
@@ -168,22 +171,22 @@ impl Reply {
     }
 }
 
-/// What the call on a range returns beside the entries: "Since the call takes no
-/// path it gives a reason without a status, and a count".
+/// What the calls on a range and on an address return beside what they write:
+/// "Since the call takes no path it gives a reason without a status, and a count".
 #[derive(Clone, Copy, Debug, PartialEq, Eq)]
-pub struct Prefixed {
+pub struct Counted {
     pub reason: u32,
     pub count: u32,
 }
 
-impl Prefixed {
+impl Counted {
     pub fn numbers(self) -> [u32; 2] {
         [self.reason, self.count]
     }
 
     /// Reason 6.
-    pub fn refused() -> Prefixed {
-        Prefixed {
+    pub fn refused() -> Counted {
+        Counted {
             reason: 6,
             count: 0,
         }
@@ -290,17 +293,17 @@ fn within(image: &[u8], part: (u32, u32)) -> &[u8] {
 
 /// "It lists the prefixes [...] that together hold exactly the addresses from
 /// first to last, in ascending order, and no shorter list does."
-pub fn prefixes(range: &[u8], out: &mut [u8]) -> Prefixed {
+pub fn prefixes(range: &[u8], out: &mut [u8]) -> Counted {
     let address = match range.len() {
         8 => 4,
         32 => 16,
-        _ => return Prefixed::refused(),
+        _ => return Counted::refused(),
     };
     // "6, with count 0, if the range has neither 8 nor 32 bytes or first is above
     // last"
     let range = range_of(range);
     if range.first > range.last {
-        return Prefixed::refused();
+        return Counted::refused();
     }
     // "An entry is the address in 4 or 16 bytes, then the prefix length in one."
     let listed = prefixes_of(range, 8 * address as u128);
@@ -311,9 +314,23 @@ pub fn prefixes(range: &[u8], out: &mut [u8]) -> Prefixed {
     }
     // "9, with the number of prefixes needed as count, if the buffer has fewer
     // bytes than the entries"
-    Prefixed {
+    Counted {
         reason: put(&entries, out),
         count: listed.len() as u32,
+    }
+}
+
+/// "IPv4 is four decimals and IPv6 the RFC 5952 form"
+pub fn address_text(address: &[u8], text: &mut [u8]) -> Counted {
+    let written = match address.len() {
+        4 => ipv4_text(address),
+        16 => ipv6_text(address),
+        _ => return Counted::refused(),
+    };
+    // "less room than the text needs is reason 9", and count is the bytes needed
+    Counted {
+        reason: put(written.as_bytes(), text),
+        count: written.len() as u32,
     }
 }
 
@@ -1359,6 +1376,43 @@ fn read_groups(text: &[u8], tail: bool) -> Option<Vec<u128>> {
         }
     }
     Some(groups)
+}
+
+/// The bytes of an address as "four decimals".
+fn ipv4_text(address: &[u8]) -> String {
+    let decimals: Vec<String> = address.iter().map(u8::to_string).collect();
+    decimals.join(".")
+}
+
+/// "lower case, longest run of at least two zero groups shortened, the first of
+/// equal ones, a dotted tail for ::ffff:0:0/96 and no other"
+fn ipv6_text(address: &[u8]) -> String {
+    let (start, tail) = address.split_at(12);
+    if start == [0, 0, 0, 0, 0, 0, 0, 0, 0, 0, 0xFF, 0xFF] {
+        return format!("::ffff:{}", ipv4_text(tail));
+    }
+    let groups: Vec<u16> = address
+        .chunks(2)
+        .map(|pair| u16::from_be_bytes([pair[0], pair[1]]))
+        .collect();
+    let runs = (0..8).flat_map(|start| (start + 2..=8).map(move |end| start..end));
+    let longest = runs
+        .filter(|run| groups[run.clone()].iter().all(|&group| group == 0))
+        // of equal ones the first, where `max_by_key` would give the last
+        .min_by_key(|run| 8 - run.len());
+    match longest {
+        None => groups_text(&groups),
+        Some(run) => {
+            let (before, after) = (&groups[..run.start], &groups[run.end..]);
+            format!("{}::{}", groups_text(before), groups_text(after))
+        }
+    }
+}
+
+/// Groups in hexadecimal without leading zeros.
+fn groups_text(groups: &[u16]) -> String {
+    let texts: Vec<String> = groups.iter().map(|group| format!("{group:x}")).collect();
+    texts.join(":")
 }
 
 // Blocks and relations

@@ -70,6 +70,13 @@ mod calls {
             out_len: usize,
             reply: *mut u32,
         );
+        fn rdap_address_text(
+            address: *const u8,
+            address_len: usize,
+            text: *mut u8,
+            text_len: usize,
+            reply: *mut u32,
+        );
         fn rdap_fold(
             image: *const u8,
             image_len: usize,
@@ -96,6 +103,22 @@ mod calls {
                 image.len(),
                 list.as_mut_ptr(),
                 list.len(),
+                reply.as_mut_ptr(),
+            )
+        }
+    }
+
+    /// A function that takes a range or an address, and bytes to write to.
+    type OnBytes = unsafe extern "C" fn(*const u8, usize, *mut u8, usize, *mut u32);
+
+    #[inline(always)]
+    fn on_bytes(call: OnBytes, input: &[u8], out: &mut [u8], reply: &mut [u32; 2]) {
+        unsafe {
+            call(
+                input.as_ptr(),
+                input.len(),
+                out.as_mut_ptr(),
+                out.len(),
                 reply.as_mut_ptr(),
             )
         }
@@ -154,15 +177,12 @@ mod calls {
 
     #[inline]
     pub fn prefixes(range: &[u8], out: &mut [u8], reply: &mut [u32; 2]) {
-        unsafe {
-            rdap_prefixes(
-                range.as_ptr(),
-                range.len(),
-                out.as_mut_ptr(),
-                out.len(),
-                reply.as_mut_ptr(),
-            )
-        }
+        on_bytes(rdap_prefixes, range, out, reply);
+    }
+
+    #[inline]
+    pub fn address_text(address: &[u8], text: &mut [u8], reply: &mut [u32; 2]) {
+        on_bytes(rdap_address_text, address, text, reply);
     }
 
     #[inline]
@@ -230,9 +250,14 @@ mod calls {
     }
 
     #[inline]
+    pub fn address_text(address: &[u8], text: &mut [u8], reply: &mut [u32; 2]) {
+        *reply = fast::address_text(address, text).numbers();
+    }
+
+    #[inline]
     pub fn fold(image: &[u8], changes: &[u8], out: &mut [u8], reply: &mut [u32; 5]) {
         *reply = fast::fold(image, changes, out).numbers();
     }
 }
 
-pub use calls::{answer, batch, fold, handle, name, prefixes, range, relation, NAME};
+pub use calls::{address_text, answer, batch, fold, handle, name, prefixes, range, relation, NAME};

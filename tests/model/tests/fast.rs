@@ -1,7 +1,7 @@
 //! The two implementations give the same on generated inputs.
 
 use model::generate::{self, Aims, Rng};
-use model::{fast, Folded, Prefixed, Reply, MOST_PREFIXES, RELATIONS};
+use model::{fast, Counted, Folded, Reply, LONGEST_TEXT, MOST_PREFIXES, RELATIONS};
 
 const FILL: u32 = 0xA5A5_5A5A;
 const FILL_BYTE: u8 = 0xA5;
@@ -120,32 +120,55 @@ fn same_batches() {
     }
 }
 
-#[test]
-fn same_prefixes() {
+/// A call on a range or an address.
+type OnBytes = fn(&[u8], &mut [u8]) -> Counted;
+
+/// Holds 100,000 such calls to the model's; their reasons, and the largest count.
+fn same_on_bytes(
+    [fast, plain]: [OnBytes; 2],
+    draw: fn(&mut Rng, &Aims) -> Vec<u8>,
+    room: fn(&mut Rng, &[u8], usize) -> usize,
+) -> ([u32; 11], usize) {
     let mut rng = Rng::new(6);
     let mut reasons = [0; 11];
-    let mut longest = 0;
+    let mut largest = 0;
     while reasons.iter().sum::<u32>() < 100_000 {
         let image = generate::sound(&mut rng);
         let aims = Aims::new(&image, &model::check(&image));
         for _ in 0..100 {
-            let range = generate::range(&mut rng, &aims);
-            let plain = |out: &mut [u8]| model::prefixes(&range, out);
-            let count = plain(&mut []).count as usize;
-            let room = generate::room(&mut rng, &range, count);
-            let expected: (Prefixed, _) = with_room(room, FILL_BYTE, plain);
+            let input = draw(&mut rng, &aims);
+            let count = plain(&input, &mut []).count as usize;
+            let room = room(&mut rng, &input, count);
+            let expected = with_room(room, FILL_BYTE, |out| plain(&input, out));
             assert_eq!(
-                with_room(room, FILL_BYTE, |out| fast::prefixes(&range, out)),
+                with_room(room, FILL_BYTE, |out| fast(&input, out)),
                 expected,
-                "{range:02x?} in {room} bytes"
+                "{input:02x?} in {room} bytes"
             );
             reasons[expected.0.reason as usize] += 1;
-            longest = longest.max(count);
+            largest = largest.max(count);
         }
     }
+    (reasons, largest)
+}
+
+#[test]
+fn same_prefixes() {
+    let calls: [OnBytes; 2] = [fast::prefixes, model::prefixes];
+    let (reasons, longest) = same_on_bytes(calls, generate::range, generate::room);
     println!("lists of prefixes by reason from 0: {reasons:?}");
     assert_occurred(&reasons, &[0, 6, 9]);
     assert_eq!(longest, MOST_PREFIXES);
+}
+
+#[test]
+fn same_address_texts() {
+    let calls: [OnBytes; 2] = [fast::address_text, model::address_text];
+    let room = |rng: &mut Rng, _: &[u8], length| generate::byte_room(rng, length);
+    let (reasons, longest) = same_on_bytes(calls, generate::address, room);
+    println!("texts of addresses by reason from 0: {reasons:?}");
+    assert_occurred(&reasons, &[0, 6, 9]);
+    assert_eq!(longest, LONGEST_TEXT);
 }
 
 /// An image and a change file: each limit once, then any.
@@ -174,7 +197,7 @@ fn same_folds() {
         let (image, changes) = fold_inputs(&mut rng, number);
         let made = model::final_image(&image, &model::check(&image), &changes);
         let length = made.as_ref().map_or(0, Vec::len);
-        let room = generate::final_room(&mut rng, length);
+        let room = generate::byte_room(&mut rng, length);
         let plain = |out: &mut [u8]| model::put_final(&made, out);
         let expected: (Folded, _) = with_room(room, FILL_BYTE, plain);
         assert!(

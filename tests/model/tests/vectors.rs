@@ -2,13 +2,15 @@
 //! with the feature `ffi`, else `src/fast.rs`. The folder is given by the
 //! variable VECTORS, else it is `../vectors` beside this package.
 
-use model::{generate, subject, Folded, Prefixed, Range, Relation, Reply, IPV4, IPV6};
+use model::generate::{self, Aims, Draft, Rng};
+use model::{subject, Counted, Folded, Range, Relation, Reply, IPV4, IPV6, LONGEST_TEXT};
 use std::fs;
 use std::path::PathBuf;
 
 const PLACES: usize = 4096;
 const FILL: u32 = 0xA5A5_5A5A;
-/// No length of a prefix, which each entry ends with, nor the last byte of an image.
+/// No length of a prefix, which each entry ends with, nor the last byte of an image
+/// or a text.
 const FILL_BYTE: u8 = 0xA5;
 
 /// The public functions of one implementation.
@@ -20,7 +22,8 @@ struct Calls {
     handle: fn(&[u8], u32) -> &[u8],
     name_of: fn(&[u8], u32) -> &[u8],
     range: fn(&[u8], u32) -> &[u8],
-    prefixes: fn(&[u8], &mut [u8]) -> Prefixed,
+    prefixes: fn(&[u8], &mut [u8]) -> Counted,
+    address_text: fn(&[u8], &mut [u8]) -> Counted,
     fold: fn(&[u8], &[u8], &mut [u8]) -> Folded,
     defect: fn(&[u8]) -> (u32, u32),
 }
@@ -35,6 +38,7 @@ const BOTH: [Calls; 2] = [
         name_of: model::name,
         range: model::range,
         prefixes: model::prefixes,
+        address_text: model::address_text,
         fold: model::fold,
         defect: |image| match model::check(image) {
             Ok(_) => (0, 0),
@@ -51,12 +55,8 @@ const BOTH: [Calls; 2] = [
         handle: |image, record| part_of(image, |part| subject::handle(image, record, part)),
         name_of: |image, record| part_of(image, |part| subject::name(image, record, part)),
         range: |image, record| part_of(image, |part| subject::range(image, record, part)),
-        prefixes: |range, out| {
-            let mut reply = [FILL; 2];
-            subject::prefixes(range, out, &mut reply);
-            let [reason, count] = reply;
-            Prefixed { reason, count }
-        },
+        prefixes: |range, out| counted(|reply| subject::prefixes(range, out, reply)),
+        address_text: |address, text| counted(|reply| subject::address_text(address, text, reply)),
         fold: |image, changes, out| {
             let mut reply = [FILL; 5];
             subject::fold(image, changes, out, &mut reply);
@@ -90,6 +90,14 @@ fn reply_of(call: impl FnOnce(&mut [u32; 7])) -> Reply {
         defect,
         place,
     }
+}
+
+/// The same for a call on a range or an address.
+fn counted(call: impl FnOnce(&mut [u32; 2])) -> Counted {
+    let mut reply = [FILL; 2];
+    call(&mut reply);
+    let [reason, count] = reply;
+    Counted { reason, count }
 }
 
 /// The part of the image that a call names.
@@ -429,11 +437,13 @@ fn run_row(calls: &Calls, folder: &str, row: &[&[u8]]) -> [Vec<u8>; 2] {
 fn run_on_bytes(calls: &Calls, folder: &str, row: &[&[u8]]) -> [Vec<u8>; 2] {
     let mut out = vec![FILL_BYTE; number(row[3])];
     let first = input(folder, row[1]);
-    let reply = if row[0] == b"rdap_fold" {
-        let changes = input(folder, row[2]);
-        column(&(calls.fold)(&first, &changes, &mut out).numbers())
-    } else {
-        column(&(calls.prefixes)(&first, &mut out).numbers())
+    let reply = match row[0] {
+        b"rdap_prefixes" => column(&(calls.prefixes)(&first, &mut out).numbers()),
+        b"rdap_address_text" => column(&(calls.address_text)(&first, &mut out).numbers()),
+        _ => {
+            let changes = input(folder, row[2]);
+            column(&(calls.fold)(&first, &changes, &mut out).numbers())
+        }
     };
     [reply, hex_column(written(&out, FILL_BYTE))]
 }
@@ -466,7 +476,7 @@ fn changes() {
         run_table(&format!("{folder}/rows.tsv"), |calls, row, tally| {
             if newest <= number(row[7]) {
                 let run = match row[0] {
-                    b"rdap_prefixes" | b"rdap_fold" => run_on_bytes,
+                    b"rdap_prefixes" | b"rdap_fold" | b"rdap_address_text" => run_on_bytes,
                     _ => run_row,
                 };
                 let expected = expected_of(&folder, row).join(&b'\t');
@@ -549,20 +559,48 @@ fn shortest() {
 /// range does.
 fn assert_exact(range: &[u8], entries: &[u8]) {
     let (first, last) = range.split_at(range.len() / 2);
-    let number = |bytes: &[u8]| {
-        let mut all = [0; 16];
-        all[16 - bytes.len()..].copy_from_slice(bytes);
-        u128::from_be_bytes(all)
-    };
-    let mut next = number(first);
+    let mut next = address_of(first);
     for entry in entries.chunks(first.len() + 1) {
         let (&length, address) = entry.split_last().expect("an entry");
         let size = 1 << (8 * first.len() - usize::from(length));
-        assert_eq!(number(address), next, "{range:02x?}");
+        assert_eq!(address_of(address), next, "{range:02x?}");
         assert_eq!(next % size, 0, "{range:02x?}");
         next = next.wrapping_add(size);
     }
-    assert_eq!(next, number(last).wrapping_add(1), "{range:02x?}");
+    assert_eq!(next, address_of(last).wrapping_add(1), "{range:02x?}");
+}
+
+/// The address of 4 or 16 bytes.
+fn address_of(bytes: &[u8]) -> u128 {
+    let mut all = [0; 16];
+    all[16 - bytes.len()..].copy_from_slice(bytes);
+    u128::from_be_bytes(all)
+}
+
+/// "Reading what was written gives the address back": the text in a path finds
+/// the network of that address alone.
+#[test]
+fn read_back() {
+    let aims = Aims::new(&[], &Ok(vec![]));
+    for calls in &BOTH {
+        let mut rng = Rng::new(8);
+        for _ in 0..20_000 {
+            let address = generate::address(&mut rng, &aims);
+            let mut text = [FILL_BYTE; LONGEST_TEXT];
+            let reply = (calls.address_text)(&address, &mut text);
+            if reply.reason != 0 {
+                assert_eq!((reply.numbers(), text), ([6, 0], [FILL_BYTE; LONGEST_TEXT]));
+                continue;
+            }
+            let tag = if address.len() == 4 { IPV4 } else { IPV6 };
+            let first = address_of(&address);
+            let range = Range { first, last: first };
+            let image = generate::encode(&[Draft::block(tag, range, b"H", b"N", true)]);
+            let path = [b"/ip/", written(&text, FILL_BYTE)].concat();
+            let found = (calls.answer)(&path, &image, &mut [FILL]);
+            assert_eq!(found.numbers(), [200, 0, 1, 0, 1, 0, 0], "{address:02x?}");
+        }
+    }
 }
 
 /// The cases of S13.2.

@@ -1,22 +1,23 @@
 //! Compares every public function with the model, call by call: the reply, the
-//! whole list, entries or final image afterwards or the part, and that nothing
-//! beside them was written. Folds of two files in turn are compared with those of
-//! their joining, too.
+//! whole list, entries, text or final image afterwards or the part, and that
+//! nothing beside them was written. Folds of two files in turn are compared with
+//! those of their joining, too.
 //!
 //!     compare [--calls N] [--seed S] [--seconds T] [--image I] [--trace]
 //!
 //! N calls of each function (100,000), from the seed S (1), for at most T
-//! seconds (100). Among 100,000 folds each of their reasons and defects must occur.
+//! seconds (100). Among 100,000 folds each of their reasons and defects must occur,
+//! and each of their reasons among so many lists of prefixes or texts of addresses.
 //! Every image has a number; `--image I` runs the calls on that one only, and
 //! `--trace` writes each call to standard error before it is made.
 //! With the feature `ffi` the library is compared, else src/fast.rs.
 
 use model::generate::{self, Aims, Draft, Rng};
-use model::{subject, Checked, Folded, Relation, LONGEST_CHANGES, RELATIONS};
+use model::{subject, Checked, Counted, Folded, Relation, LONGEST_CHANGES, RELATIONS};
 use std::process::ExitCode;
 use std::time::{Duration, Instant};
 
-const FUNCTIONS: [&str; 11] = [
+const FUNCTIONS: [&str; 12] = [
     "rdap_answer",
     "rdap_up",
     "rdap_down",
@@ -28,6 +29,7 @@ const FUNCTIONS: [&str; 11] = [
     "rdap_range",
     "rdap_prefixes",
     "rdap_fold",
+    "rdap_address_text",
 ];
 const ANSWER: usize = 0;
 const HANDLE: usize = 5;
@@ -36,6 +38,7 @@ const BATCH: usize = 7;
 const RANGE: usize = 8;
 const PREFIXES: usize = 9;
 const FOLD: usize = 10;
+const ADDRESS_TEXT: usize = 11;
 
 /// How often each reason occurred.
 type Reasons = [u64; 13];
@@ -43,8 +46,32 @@ type Reasons = [u64; 13];
 /// After so many differences the run stops.
 const ENOUGH: u64 = 10;
 
-/// Among so many folds each of their reasons and defects occurs.
-const MANY_FOLDS: u64 = 100_000;
+/// Among so many calls of a function each of their reasons and defects occurs.
+const MANY: u64 = 100_000;
+
+/// Whether something that is wanted did not occur.
+fn lacks(counts: &[u64], wanted: &[usize]) -> bool {
+    wanted.iter().any(|&at| counts[at] == 0)
+}
+
+/// What occurred among the calls on a range or on an address.
+#[derive(Default)]
+struct Counts {
+    reasons: Reasons,
+    largest: u32,
+}
+
+impl Counts {
+    fn note(&mut self, reply: Counted) {
+        self.reasons[reply.reason as usize] += 1;
+        self.largest = self.largest.max(reply.count);
+    }
+
+    /// Whether something that should have occurred did not.
+    fn lack(&self) -> bool {
+        lacks(&self.reasons, &[0, 6, 9])
+    }
+}
 
 /// What occurred among the folds.
 #[derive(Default)]
@@ -68,7 +95,6 @@ impl Folds {
 
     /// Whether something that should have occurred did not.
     fn lack(&self) -> bool {
-        let lacks = |counts: &[u64], wanted: &[usize]| wanted.iter().any(|&at| counts[at] == 0);
         lacks(&self.reasons, &[0, 2, 9, 11, 12])
             || lacks(&self.before, &[1, 2, 3, 4, 5, 6, 7])
             || lacks(&self.after, &[1, 3, 7])
@@ -186,7 +212,7 @@ fn pattern(place: usize) -> u32 {
     0xA5A5_0000 ^ (place as u32).wrapping_mul(0x0001_0003)
 }
 
-/// The same for a byte among the entries or of the final image.
+/// The same for a byte among the entries, of the text or of the final image.
 fn byte_pattern(place: usize) -> u8 {
     pattern(place) as u8 ^ 0xA5
 }
@@ -208,9 +234,8 @@ struct Run {
     /// Those of the batches, and of the answers within them.
     batches: Reasons,
     answers: Reasons,
-    /// Those of the lists of prefixes, and how many the longest has.
-    lists: Reasons,
-    longest: u32,
+    lists: Counts,
+    texts: Counts,
     folds: Folds,
     defects: [u64; 8],
     failed: u64,
@@ -229,8 +254,8 @@ impl Run {
             reasons: Reasons::default(),
             batches: Reasons::default(),
             answers: Reasons::default(),
-            lists: Reasons::default(),
-            longest: 0,
+            lists: Counts::default(),
+            texts: Counts::default(),
             folds: Folds::default(),
             defects: [0; 8],
             failed: 0,
@@ -249,12 +274,7 @@ impl Run {
     fn image(&mut self, number: u64) {
         let mut rng = Rng::part(self.options.seed, number);
         let base = Base::new(draw(number, &mut rng));
-        let Base {
-            image,
-            checked,
-            aims,
-            ..
-        } = &base;
+        let (image, checked, aims) = (&base.image, &base.checked, &base.aims);
         self.defects[checked.as_ref().err().map_or(0, |found| found.defect) as usize] += 1;
         // The model is slow on large images, and a defective one has but one
         // answer.
@@ -279,9 +299,9 @@ impl Run {
                 let record = generate::record(&mut rng, aims);
                 self.part(number, function, record, image, checked);
             }
-            let range = generate::range(&mut rng, aims);
-            self.prefixes(number, &mut rng, &range);
+            self.prefixes(number, &mut rng, aims);
             self.folds(number, &mut rng, &base);
+            self.address_text(number, &mut rng, aims);
         }
         if (number as usize) < generate::FOLD_LIMITS {
             self.fold_limit(number, &mut rng);
@@ -458,25 +478,52 @@ impl Run {
         }
     }
 
-    fn prefixes(&mut self, number: u64, rng: &mut Rng, range: &[u8]) {
-        let full = model::prefixes(range, &mut []);
-        let room = generate::room(rng, range, full.count as usize);
-        let mut expected: Vec<u8> = (0..room).map(byte_pattern).collect();
-        let wanted = model::prefixes(range, &mut expected);
-        self.calls[PREFIXES] += 1;
-        self.lists[wanted.reason as usize] += 1;
-        self.longest = self.longest.max(wanted.count);
+    fn prefixes(&mut self, number: u64, rng: &mut Rng, aims: &Aims) {
+        let range = generate::range(rng, aims);
+        let full = model::prefixes(&range, &mut []);
+        let room = generate::room(rng, &range, full.count as usize);
+        let wanted = self.on_bytes(number, rng, PREFIXES, &range, room);
+        self.lists.note(wanted);
+    }
 
-        self.trace(number, PREFIXES, || {
-            format!("{} in {room} bytes", hex(range))
+    fn address_text(&mut self, number: u64, rng: &mut Rng, aims: &Aims) {
+        let address = generate::address(rng, aims);
+        let full = model::address_text(&address, &mut []);
+        let room = generate::byte_room(rng, full.count as usize);
+        let wanted = self.on_bytes(number, rng, ADDRESS_TEXT, &address, room);
+        self.texts.note(wanted);
+    }
+
+    /// Makes a call that takes a range or an address; what it is to reply.
+    fn on_bytes(
+        &mut self,
+        number: u64,
+        rng: &mut Rng,
+        function: usize,
+        input: &[u8],
+        room: usize,
+    ) -> Counted {
+        type Plain = fn(&[u8], &mut [u8]) -> Counted;
+        type Call = fn(&[u8], &mut [u8], &mut [u32; 2]);
+        let (plain, call): (Plain, Call) = match function {
+            PREFIXES => (model::prefixes, subject::prefixes),
+            _ => (model::address_text, subject::address_text),
+        };
+        let mut expected: Vec<u8> = (0..room).map(byte_pattern).collect();
+        let wanted = plain(input, &mut expected);
+        self.calls[function] += 1;
+
+        self.trace(number, function, || {
+            format!("{} in {room} bytes", hex(input))
         });
-        self.prepare_bytes(rng, range, room, wanted.numbers().len());
-        subject::prefixes(
+        self.prepare_bytes(rng, input, room, wanted.numbers().len());
+        call(
             self.path.contents(),
             self.out.contents_mut(),
             as_words(&mut self.reply),
         );
-        self.judge_bytes(number, PREFIXES, range, None, &wanted.numbers(), &expected);
+        self.judge_bytes(number, function, input, None, &wanted.numbers(), &expected);
+        wanted
     }
 
     fn fold_limit(&mut self, number: u64, rng: &mut Rng) {
@@ -535,7 +582,7 @@ impl Run {
     ) -> Option<Vec<u8>> {
         let made = model::final_image(&base.image, &base.checked, changes);
         let length = made.as_ref().map_or(0, Vec::len);
-        let room = room.unwrap_or_else(|| generate::final_room(rng, length));
+        let room = room.unwrap_or_else(|| generate::byte_room(rng, length));
         let mut expected: Vec<u8> = (0..room).map(byte_pattern).collect();
         let wanted = model::put_final(&made, &mut expected);
         self.calls[FOLD] += 1;
@@ -562,7 +609,8 @@ impl Run {
             .place((0..words).map(|_| 0xFFFF_FFFF), rng.below(4));
     }
 
-    /// Judges such a call on a range, or on a change file and an image.
+    /// Judges such a call on a range or an address, or on a change file and an
+    /// image.
     fn judge_bytes(
         &mut self,
         number: u64,
@@ -632,7 +680,11 @@ impl Run {
         println!("answers in batches, by reason: {:?}", self.answers);
         println!(
             "lists of prefixes, by reason: {:?}; at most {} prefixes",
-            self.lists, self.longest
+            self.lists.reasons, self.lists.largest
+        );
+        println!(
+            "texts of addresses, by reason: {:?}; at most {} bytes",
+            self.texts.reasons, self.texts.largest
         );
         println!(
             "folds, by reason: {:?}; {} of them joinings",
@@ -643,8 +695,19 @@ impl Run {
             self.folds.before, self.folds.after
         );
         for (name, calls) in FUNCTIONS.iter().zip(self.calls) {
-            println!("{name:13} {calls:>9} calls");
+            println!("{name:17} {calls:>9} calls");
         }
+    }
+
+    /// Whether something did not occur among many calls of a function.
+    fn lacks(&self) -> bool {
+        let lack = [
+            (FOLD, self.folds.lack()),
+            (PREFIXES, self.lists.lack()),
+            (ADDRESS_TEXT, self.texts.lack()),
+        ];
+        lack.iter()
+            .any(|&(function, lack)| lack && self.calls[function] >= MANY)
     }
 
     fn trace(&self, number: u64, function: usize, asked: impl FnOnce() -> String) {
@@ -699,8 +762,8 @@ fn main() -> ExitCode {
             }
         }
     }
-    if run.calls[FOLD] >= MANY_FOLDS && run.folds.lack() {
-        println!("a reason or a defect of the folds did not occur");
+    if run.lacks() {
+        println!("a reason or a defect of the folds, the lists or the texts did not occur");
         run.failed += 1;
     }
     run.summarize(start.elapsed());
