@@ -1,0 +1,109 @@
+-- The network and its entries, then its filter by them.
+use Prim.Native.Nat.{ℕ}
+use mathlib.Core.List.{List}
+use mathlib.Core.Path.{_≡_, sym}
+use lib.ListN.{replicate, length-replicate}
+use native.Mathlib.Omega.{arith}
+use lib.Seq.{length-take-le}
+use Rattle.address.specs.Number.{Bytes}
+use Rattle.layouts.proofs.Names.{name-length}
+use Rattle.filters.proofs.Writing.{written-front}
+use Rattle.filters.proofs.Networks.{Network, a-network, no-network, is-wide, entries-inside, before-fits, text-is, text-fits, no-room, long-handle, filter-put, nothing-put}
+use borrow.Author.Needs.{needs}
+use Rattle.filters.proofs.put_filter.Statement.{statement}
+use Rattle.filters.proofs.put_filter.Tie as tie
+
+abbrev start : tie.After-prefixes → tie.Start
+start c = c .before .before .before .before .before .before .before
+
+bytes : (c : tie.After-prefixes) → Bytes (start c .args .range .now)
+bytes c i h = c .before .before .before .before .before .shared-slice-known2 .given i .fits
+
+-- the buffer for the entries
+abbrev buffer : List ℕ
+buffer = replicate 4318 0
+
+listed : (c : tie.After-prefixes) → c .prefixes .result .reason ≡ 0 → Network (start c .args .range .now) (c .prefixes .last .1 .0) (c .prefixes .result .count)
+listed c e = a-network (start c .args .range .now) buffer (bytes c) (length-replicate {A = ℕ} 4318 0) (c .prefixes .ensures .0) (c .prefixes .ensures .1) e
+
+returns : tie.Need-returns
+returns c = no-room _ _ _ _ (omega arith)
+
+returns-2 : tie.Need-returns-2
+returns-2 c = long-handle _ _ _ _ (omega arith) (omega arith)
+
+slice-aggregate-prefixes : tie.Need-slice-aggregate-prefixes
+slice-aggregate-prefixes c = search needs
+
+prefixes-requires : tie.Need-prefixes-requires
+prefixes-requires c κs = search needs
+
+returns-3 : tie.Need-returns-3
+returns-3 c = nothing-put _ _ _ _ (omega arith) (omega arith) (no-network (start (c .before .before .before) .args .range .now) buffer (bytes (c .before .before .before)) (length-replicate {A = ℕ} 4318 0) (c .before .before .before .prefixes .ensures .0) (c .before .before .before .prefixes .ensures .1) (c .if3 .taken))
+
+slice-aggregate-put-name : tie.Need-slice-aggregate-put-name
+slice-aggregate-put-name c = search needs
+
+put-name-requires : tie.Need-put-name-requires
+put-name-requires c κs = search needs
+
+cast-count : tie.Need-cast-count
+cast-count c = search needs
+
+style-of-requires : tie.Need-style-of-requires
+style-of-requires c κs = search needs
+
+array-share-prefix-name : tie.Need-array-share-prefix-name
+array-share-prefix-name c =
+    let a = c .before .before .before .before .before .before .before .before .before .before .before .before .before .before .before .args in
+    let n = name-length (a .format) (a .handle .now) in
+    omega (arith, c .before .before .before .put-name .ensures .size)
+
+slice-aggregate-put-entries : tie.Need-slice-aggregate-put-entries
+slice-aggregate-put-entries c =
+    let a = c .before .before .before .before .before .before .before .before .before .before .before .before .before .before .before .before .args in
+    let n = name-length (a .format) (a .handle .now) in
+    sym (length-take-le _ _ (omega (arith, c .before .before .before .before .put-name .ensures .size)))
+
+slice-aggregate-put-entries-2 : tie.Need-slice-aggregate-put-entries-2
+slice-aggregate-put-entries-2 c = search needs
+
+put-entries-requires : tie.Need-put-entries-requires
+put-entries-requires c κs =
+    let a = c .before .before .before .before .before .before .before .before .before .before .before .before .before .before .before .before .before .before .args in
+    let e = written-front (c .before .before .before .before .before .before .put-name .ensures) in
+    let s = c .before .before .before .style-of .ensures .0 in
+    let g = listed (c .before .before .before .before .before .before .before .before .before .before .before) (c .before .before .before .before .before .before .before .before .if3 .left) in
+    let f = text-fits g (a .format) (a .handle .now) (omega arith) in
+    (c .before .before .before .style-of .ensures .1, rw (e, s) (before-fits g (a .format) (a .handle .now) (omega arith)), is-wide g, entries-inside g, rw (e, s, text-is g (a .format) (a .handle .now)) (omega arith))
+
+same-length : tie.Need-same-length
+same-length c = search needs
+
+returns-4 : tie.Need-returns-4
+returns-4 c =
+    let a = c .before .before .before .before .before .before .before .before .before .before .before .before .before .before .before .before .before .before .before .before .before .args in
+    let e = written-front (c .before .before .before .before .before .before .before .before .before .put-name .ensures) in
+    let s = c .before .before .before .before .before .before .style-of .ensures .0 in
+    let g = listed (c .before .before .before .before .before .before .before .before .before .before .before .before .before .before) (c .before .before .before .before .before .before .before .before .before .before .before .if3 .left) in
+    filter-put _ _ _ _ (omega arith) (omega arith) (rw (e, s, text-is g (a .format) (a .handle .now)) at (c .before .before .put-entries .ensures))
+
+pub put-filter-spec : {M : Type 1} → statement M
+put-filter-spec =
+    tie.close
+    (tie.spec
+    returns
+    returns-2
+    slice-aggregate-prefixes
+    prefixes-requires
+    returns-3
+    slice-aggregate-put-name
+    put-name-requires
+    cast-count
+    style-of-requires
+    array-share-prefix-name
+    slice-aggregate-put-entries
+    slice-aggregate-put-entries-2
+    put-entries-requires
+    same-length
+    returns-4)

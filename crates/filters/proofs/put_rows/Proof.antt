@@ -1,0 +1,149 @@
+-- What is written so far, followed by the rows of the entries that are left, is the whole.
+use Prim.Native.Nat.{ℕ, _+_, _-_, _*_, _≤_}
+use mathlib.Core.Path.{_≡_, refl, _∙_}
+use native.Mathlib.Omega.{arith}
+use mathlib.Core.List.{List}
+use lib.ListN.{length, take, drop, getD}
+use Rattle.listing.proofs.Writing.{rest-length}
+use Rattle.filters.specs.Rows.{rowText, entryRows}
+use Rattle.filters.proofs.Writing.{Reached, at-start, part-fits, next-part, at-end}
+use Rattle.filters.proofs.Rows.{no-rows, row-next, entry-inside, entry-length}
+use borrow.Author.Needs.{needs}
+use Rattle.filters.proofs.put_rows.Statement.{statement}
+use Rattle.filters.proofs.put_rows.Tie as tie
+
+abbrev Inv-loop : tie.InvT-loop
+Inv-loop style before width count entries out₀ at₀ from₀ left₀ out at from left =
+    (from + left * (width + 1) ≤ length entries) × (length out ≡ length out₀)
+    × Reached (entryRows style before width count entries) (entryRows style before width left (drop from entries)) out₀ out at
+
+abbrev μ-loop : tie.MeasureT-loop
+μ-loop style before width count entries out₀ at₀ from₀ left₀ out at from left = left
+
+abbrev Place : Type 0
+Place = tie.In-loop Inv-loop μ-loop
+
+abbrev start : Place → tie.Start Inv-loop μ-loop
+start c = c .before .before .before .before .before
+
+-- the next entry, and its row
+inside : (c : Place) → let l = c .before .loop in let a = start c .args in l .from + a .width + 1 + (l .left - 1) * (a .width + 1) ≤ length (a .entries .now)
+inside c =
+    let l = c .before .loop in
+    let a = start c .args in
+    entry-inside (a .style) (a .before .now) (a .width) (a .entries .now) (l .from) (l .left) (omega arith) (l .inv .0)
+
+abbrev row : Place → List ℕ
+row c =
+    let l = c .before .loop in
+    let a = start c .args in
+    rowText (a .style) (a .before .now) (take (l .from + a .width - l .from) (drop (l .from) (a .entries .now))) (getD (a .entries .now) (l .from + a .width) 0) (l .left - 1)
+
+fits : (c : Place) → c .before .loop .at + length (row c) ≤ length (c .before .loop .out)
+fits c =
+    let l = c .before .loop in
+    let a = start c .args in
+    part-fits (l .inv .2) (row-next (a .style) (a .before .now) (a .width) (a .entries .now) (l .from) (l .left) (omega arith)) (omega (arith, start c .pre .3, l .inv .1))
+
+loop-holds : tie.Need-loop-holds Inv-loop μ-loop
+loop-holds c =
+    (omega (arith, c .before .before .before .pre .2), refl, at-start _ _)
+
+sub-left : tie.Need-sub-left Inv-loop μ-loop
+sub-left c = search needs
+
+add-end : tie.Need-add-end Inv-loop μ-loop
+add-end c =
+    let i = inside (c) in
+    omega arith
+
+sub-put-row : tie.Need-sub-put-row Inv-loop μ-loop
+sub-put-row c =
+    let i = inside (c) in
+    omega arith
+
+part-put-row-start : tie.Need-part-put-row-start Inv-loop μ-loop
+part-put-row-start c =
+    let i = inside (c) in
+    omega arith
+
+part-put-row-end : tie.Need-part-put-row-end Inv-loop μ-loop
+part-put-row-end c =
+    let i = inside (c) in
+    omega arith
+
+shared-slice-read-put-row : tie.Need-shared-slice-read-put-row Inv-loop μ-loop
+shared-slice-read-put-row c =
+    let i = inside (c .before .before) in
+    omega arith
+
+sub-put-row-2 : tie.Need-sub-put-row-2 Inv-loop μ-loop
+sub-put-row-2 c =
+    omega (arith, fits (c .before .before))
+
+part-put-row-start-2 : tie.Need-part-put-row-start-2 Inv-loop μ-loop
+part-put-row-start-2 c =
+    omega (arith, fits (c .before .before))
+
+part-put-row-end-2 : tie.Need-part-put-row-end-2 Inv-loop μ-loop
+part-put-row-end-2 c = search needs
+
+put-row-requires : tie.Need-put-row-requires Inv-loop μ-loop
+put-row-requires c κs =
+    let i = inside (c .before .before .before) in
+    let a = start (c .before .before .before) .args in
+    let l = c .before .before .before .before .loop in
+    (start (c .before .before .before) .pre .0, rw (entry-length (a .entries .now) (l .from) (a .width) (omega arith)) (start (c .before .before .before) .pre .1), rw rest-length (omega (arith, fits (c .before .before .before))))
+
+add-at : tie.Need-add-at Inv-loop μ-loop
+add-at c =
+    omega (arith, fits (c .before .before .before .before .before .before), c .before .before .put-row .ensures .size)
+
+add-from : tie.Need-add-from Inv-loop μ-loop
+add-from c =
+    let i = inside (c .before .before .before .before .before .before) in
+    omega arith
+
+loop-less : tie.Need-loop-less Inv-loop μ-loop
+loop-less c = omega arith
+
+loop-again : tie.Need-loop-again Inv-loop μ-loop
+loop-again c =
+    let a = start (c .before .before .before .before .before .before) .args in
+    let l = c .before .before .before .before .before .before .before .loop in
+    let t = row-next (a .style) (a .before .now) (a .width) (a .entries .now) (l .from) (l .left) (omega arith) in
+    (inside (c .before .before .before .before .before .before), c .before .out .given .1 ∙ l .inv .1, next-part (l .inv .2) t (c .before .before .put-row .ensures))
+
+same-length : tie.Need-same-length Inv-loop μ-loop
+same-length c = c .before .loop .inv .1
+
+returns : tie.Need-returns Inv-loop μ-loop
+returns c =
+    let l = c .before .loop in
+    let a = c .before .before .before .before .before .args in
+    let e : l .left ≡ 0 = omega arith in
+    at-end (rw (e, no-rows (a .style) (a .before .now) (a .width) (drop (l .from) (a .entries .now))) at (l .inv .2))
+
+pub put-rows-spec : {M : Type 1} → statement M
+put-rows-spec =
+    tie.close
+    (tie.spec
+    Inv-loop
+    μ-loop
+    loop-holds
+    sub-left
+    add-end
+    sub-put-row
+    part-put-row-start
+    part-put-row-end
+    shared-slice-read-put-row
+    sub-put-row-2
+    part-put-row-start-2
+    part-put-row-end-2
+    put-row-requires
+    add-at
+    add-from
+    loop-less
+    loop-again
+    same-length
+    returns)

@@ -1,0 +1,4 @@
+pub mod Filter
+pub mod Rows
+pub mod Computing
+pub mod Examples

@@ -1,0 +1,25 @@
+-- Serves contracts and proofs. The rows of a filter by entries of bytes, as the code reads them.
+use Prim.Native.Nat.{ℕ, zero, suc, _+_}
+use mathlib.Core.List.{List, [], _++_}
+use lib.ListN.{take, drop, getD}
+use Rattle.numeral.specs.Digits.{decimalText}
+use Rattle.ip_text.specs.Text.{textOf}
+use Rattle.layouts.specs.Layout.{endOf}
+use Rattle.layouts.specs.Styles.{layoutAt}
+
+-- an address and its length
+abbrev pub slashed : (slash address : List ℕ) (bits : ℕ) → List ℕ
+slashed slash address bits = textOf address ++ slash ++ decimalText bits
+
+abbrev pub rowText : (style : ℕ) (before address : List ℕ) (bits left : ℕ) → List ℕ
+rowText style before address bits left = before ++ slashed (layoutAt style [] .slash) address bits ++ endOf (layoutAt style []) left
+
+-- the rows of so many entries: an address of so many bytes and its length
+unfoldable pub entryRows : (style : ℕ) (before : List ℕ) (width count : ℕ) (entries : List ℕ) → List ℕ
+entryRows style before width zero s = []
+entryRows style before width (suc n) s = rowText style before (take width s) (getD s width 0) n ++ entryRows style before width n (drop (width + 1) s)
+
+-- head, rows and foot
+abbrev pub entriesText : (style : ℕ) (name : List ℕ) (width count : ℕ) (entries : List ℕ) → List ℕ
+entriesText style name width count s =
+    layoutAt style name .head ++ entryRows style (layoutAt style name .before) width count s ++ layoutAt style [] .foot

@@ -1,0 +1,4 @@
+pub mod Layout
+pub mod Styles
+pub mod Computing
+pub mod Examples

@@ -1,0 +1,239 @@
+// The names and the layouts of router filters (S12.6, S12.7).
+ghost use mathlib.Core.Path.{_≡_};
+ghost use mathlib.Core.Bool.{cond, _||_};
+ghost use mathlib.Core.List.{[]};
+ghost use Prim.Native.Nat.{_+_, _-_, _≤_, _<_};
+ghost use lib.ListN.{length, take, drop};
+ghost use Rattle.address.specs.Lists.{contains};
+ghost use Rattle.pieces.specs.Ascii.{code, isAlphanumeric};
+ghost use Rattle.listing.specs.Writing.{Written};
+ghost use Rattle.layouts.specs.Layout.{isAllowed, nameIn, endOf};
+ghost use Rattle.layouts.specs.Styles.{styleOf, texts, startOf, textAt, namedAt, layoutAt};
+use listing::put_bytes;
+use pieces::between;
+use pieces::has_byte;
+
+// How the prefixes are written.
+pub enum Format {
+    Plain,
+    Cisco,
+    Bird,
+    Juniper,
+    Json,
+}
+
+// Whether c is a letter, a digit or one of others.
+fn is_word(c: u8, others: &[u8]) -> bool
+    ensures { λ r. ⌜ r ≡ (isAlphanumeric c || contains c (now (others .entry))) ⌝ }
+{
+    if between(b'0', b'9', c) {
+        return true;
+    }
+    if between(b'A', b'Z', c) {
+        return true;
+    }
+    if between(b'a', b'z', c) {
+        return true;
+    }
+    has_byte(c, others)
+}
+
+fn is_bird(i: usize, c: u8) -> bool
+    ensures { λ r. ⌜ r ≡ isAllowed Format.Bird i c ⌝ }
+{
+    if i == 0 {
+        if between(b'0', b'9', c) {
+            return false;
+        }
+    }
+    is_word(c, b"_")
+}
+
+// Whether a name of the format may have the byte c at place i.
+fn is_allowed(format: Format, i: usize, c: u8) -> bool
+    ensures { λ r. ⌜ r ≡ isAllowed format i c ⌝ }
+{
+    match format {
+        Format::Plain => true,
+        Format::Cisco => is_word(c, b"-_."),
+        Format::Bird => is_bird(i, c),
+        Format::Juniper => is_word(c, b"-_."),
+        Format::Json => !has_byte(c, b"\"\\"),
+    }
+}
+
+fn name_byte(format: Format, i: usize, c: u8) -> u8
+    ensures { λ r. ⌜ r ≡ cond (isAllowed format i c) c (code "_") ⌝ }
+{
+    if is_allowed(format, i, c) {
+        return c;
+    }
+    b'_'
+}
+
+// The name of a filter (S12.6), of as many bytes as the handle.
+pub fn put_name(format: Format, handle: &[u8], out: &mut [u8]) -> usize
+    requires { ⌜ length (now handle) ≤ length (now out) ⌝ }
+    ensures { λ r. ⌜ Written (nameIn format (now (handle .entry))) (now (out .entry)) (now (out .exit)) r ⌝ }
+{
+    for i in 0..handle.len() {
+        out[i] = name_byte(format, i, handle[i]);
+    }
+    handle.len()
+}
+
+pub fn put(s: &[u8], out: &mut [u8]) -> usize
+    requires { ⌜ length (now s) ≤ length (now out) ⌝ }
+    ensures { λ r. ⌜ Written (now (s .entry)) (now (out .entry)) (now (out .exit)) r ⌝ }
+{
+    put_bytes(s, out);
+    s.len()
+}
+
+// The texts of the layouts, one after another, eight for each style: before and after the name in the head, before and after the name before
+// each prefix, the slash, after each prefix but the last, after the last, at the end.
+const TEXTS: [u8; 240] =
+    *b" /\n\nno ip prefix-list \nip prefix-list  permit /\n\nno ipv6 prefix-list \nipv6 prefix-list  permit /\n\n = [\n    /,\n\n];\npolicy-options {\nreplace:\n prefix-list  {\n    /;\n;\n }\n}\n{ \"\": [\n    { \"prefix\": \"\\/\", \"exact\": true },\n\", \"exact\": true }\n] }\n";
+
+// Where each of them starts.
+const STARTS: [usize; 49] = [
+    0,
+    0,
+    0,
+    0,
+    1,
+    2,
+    3,
+    4,
+    4,
+    22,
+    23,
+    38,
+    46,
+    47,
+    48,
+    49,
+    49,
+    69,
+    70,
+    87,
+    95,
+    96,
+    97,
+    98,
+    98,
+    98,
+    103,
+    107,
+    107,
+    108,
+    110,
+    111,
+    114,
+    153,
+    156,
+    160,
+    160,
+    161,
+    163,
+    165,
+    170,
+    173,
+    178,
+    195,
+    195,
+    197,
+    217,
+    236,
+    240,
+];
+
+// The number of a layout: Cisco has one for IPv4 and one for IPv6.
+pub fn style_of(format: Format, width: usize) -> usize
+    ensures { λ r. ⌜ (r ≡ styleOf format width) × (r < 6) ⌝ }
+{
+    match format {
+        Format::Plain => 0,
+        Format::Cisco => {
+            if width == 4 {
+                return 1;
+            }
+            2
+        }
+        Format::Bird => 3,
+        Format::Juniper => 4,
+        Format::Json => 5,
+    }
+}
+
+fn start_of(k: usize) -> usize
+    requires { ⌜ k < 49 ⌝ }
+    ensures { λ r. ⌜ r ≡ startOf k ⌝ }
+{
+    STARTS[k]
+}
+
+fn all_texts() -> [u8; 240]
+    ensures { λ r. ⌜ r ≡ texts ⌝ }
+{
+    TEXTS
+}
+
+// A part of a text.
+fn put_part(s: &[u8], from: usize, end: usize, out: &mut [u8]) -> usize
+    requires { ⌜ (from ≤ end) × (end ≤ length (now s)) × (end - from ≤ length (now out)) ⌝ }
+    ensures { λ r. ⌜ Written (take (end - from) (drop from (now (s .entry)))) (now (out .entry)) (now (out .exit)) r ⌝ }
+{
+    put(&s[from..end], out)
+}
+
+pub fn put_text(k: usize, out: &mut [u8]) -> usize
+    requires { ⌜ (k < 48) × (length (textAt k) ≤ length (now out)) ⌝ }
+    ensures { λ r. ⌜ Written (textAt k) (now (out .entry)) (now (out .exit)) r ⌝ }
+{
+    let from = start_of(k);
+    let end = start_of(k + 1);
+    let s = all_texts();
+    put_part(&s, from, end, out)
+}
+
+// A name between two texts.
+fn put_named(k: usize, name: &[u8], out: &mut [u8]) -> usize
+    requires { ⌜ (k < 47) × (length (namedAt k (now name)) ≤ length (now out)) ⌝ }
+    ensures { λ r. ⌜ Written (namedAt k (now (name .entry))) (now (out .entry)) (now (out .exit)) r ⌝ }
+{
+    let mut at = put_text(k, out);
+    at += put(name, &mut out[at..]);
+    at + put_text(k + 1, &mut out[at..])
+}
+
+pub fn put_head(style: usize, name: &[u8], out: &mut [u8]) -> usize
+    requires { ⌜ (style < 6) × (length (layoutAt style (now name) .head) ≤ length (now out)) ⌝ }
+    ensures { λ r. ⌜ Written (layoutAt style (now (name .entry)) .head) (now (out .entry)) (now (out .exit)) r ⌝ }
+{
+    if style == 0 {
+        return 0;
+    }
+    put_named(8 * style, name, out)
+}
+
+pub fn put_before(style: usize, name: &[u8], out: &mut [u8]) -> usize
+    requires { ⌜ (style < 6) × (length (layoutAt style (now name) .before) ≤ length (now out)) ⌝ }
+    ensures { λ r. ⌜ Written (layoutAt style (now (name .entry)) .before) (now (out .entry)) (now (out .exit)) r ⌝ }
+{
+    if style < 3 {
+        return put_named(8 * style + 2, name, out);
+    }
+    put_text(8 * style + 2, out)
+}
+
+// What follows a prefix after which so many are left.
+pub fn put_end(style: usize, left: usize, out: &mut [u8]) -> usize
+    requires { ⌜ (style < 6) × (length (endOf (layoutAt style []) left) ≤ length (now out)) ⌝ }
+    ensures { λ r. ⌜ Written (endOf (layoutAt style []) left) (now (out .entry)) (now (out .exit)) r ⌝ }
+{
+    if left == 0 {
+        return put_text(8 * style + 6, out);
+    }
+    put_text(8 * style + 5, out)
+}
