@@ -76,6 +76,13 @@ pub fn tell_defective(defect: u32, place: u32, handle: &[u8]) {
     tell(b"\n");
 }
 
+// What is wrong with an image file.
+pub fn tell_image(name: &[u8], defect: u32, place: u32) {
+    tell(name);
+    tell(b": ");
+    tell_defective(defect, place, b"");
+}
+
 // Files that are read.
 
 // Reads what an open file holds into a room with one byte more than it may hold.

@@ -16,6 +16,7 @@ use files::read_whole;
 use files::tell;
 use files::tell_defect;
 use files::tell_defective;
+use files::tell_image;
 use files::tell_name;
 use files::tell_number;
 use files::write_out;
@@ -156,9 +157,7 @@ fn tell_refusal<'a>(
     requires { ⌜ length (now changes) ≤ 65536 ⌝ }
 {
     if r.reason == 2 {
-        tell(image_name);
-        tell(b": ");
-        tell_defective(r.defect, r.place, b"");
+        tell_image(image_name, r.defect, r.place);
         return;
     }
     tell(changes_name);

@@ -14,7 +14,7 @@ use entries::first_from;
 use files::part;
 use files::read_whole;
 use files::tell;
-use files::tell_defective;
+use files::tell_image;
 use files::tell_record;
 use files::write_out;
 use filters::Format;
@@ -78,7 +78,9 @@ fn write_lists(image: &[u8], places: &[u32; 4096], until: u32, format: Format, a
     flush(&out, at);
 }
 
-fn tell_network(image: &[u8], places: &[u32; 4096], number: u32) {
+// A network, after a text.
+fn tell_network(before: &[u8], image: &[u8], places: &[u32; 4096], number: u32) {
+    tell(before);
     tell_record(
         number,
         part_at(image, place_of(places, number), Which::Handle),
@@ -101,10 +103,8 @@ fn tell_clash(
     image_name: &[u8],
 ) {
     tell(image_name);
-    tell(b": records ");
-    tell_network(image, places, first);
-    tell(b" and ");
-    tell_network(image, places, second);
+    tell_network(b": records ", image, places, first);
+    tell_network(b" and ", image, places, second);
     tell(b" would both be named ");
     tell_list_name(image, place_of(places, second), format);
     tell(b"\n");
@@ -133,15 +133,11 @@ fn list_image(image: &[u8], format: Format, all: bool, image_name: &[u8]) {
     let mut places = [0u32; 4096];
     match index(image, &mut places) {
         Verdict::Sound(count) => list_networks(image, &places, count, format, all, image_name),
-        Verdict::Defective(defect, place) => {
-            tell(image_name);
-            tell(b": ");
-            tell_defective(defect, place, b"");
-        }
+        Verdict::Defective(defect, place) => tell_image(image_name, defect, place),
     }
 }
 
-fn run(image_name: &[u8], format: Format, all: bool) {
+fn list_file(image_name: &[u8], format: Format, all: bool) {
     let mut image = [0u8; 262145];
     let n = read_whole(image_name, &mut image);
     if n <= 262144 {
@@ -235,17 +231,23 @@ fn format_of(a: Arguments) -> Choice {
     format_named(&word[..n])
 }
 
-fn main() {
-    let a = read_arguments();
-    let Choice::Of(format) = format_of(a) else {
-        tell(b"usage: rdap_prefixes IMAGE [plain|cisco|bird|juniper|json] [--all]\n");
-        return;
-    };
-    let mut image = io::buffer();
-    let n = os::arg(a.image, &mut image);
+// Lists the image that argument i names.
+fn run(i: usize, format: Format, all: bool) {
+    let mut name = io::buffer();
+    let n = os::arg(i, &mut name);
     if os::errno() != 0 {
         os::fail(b"IMAGE");
         return;
     }
-    run(&image[..n], format, a.all);
+    list_file(&name[..n], format, all);
+}
+
+fn main() {
+    let a = read_arguments();
+    match format_of(a) {
+        Choice::Of(format) => run(a.image, format, a.all),
+        Choice::Unknown => {
+            tell(b"usage: rdap_prefixes IMAGE [plain|cisco|bird|juniper|json] [--all]\n");
+        }
+    }
 }

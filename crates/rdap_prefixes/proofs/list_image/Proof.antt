@@ -16,20 +16,8 @@ list-networks-requires c κs =
 enum-known-defect : tie.Need-enum-known-defect
 enum-known-defect c = search needs
 
-tell-requires : tie.Need-tell-requires
-tell-requires c κs = search needs
-
-slice-aggregate-tell : tie.Need-slice-aggregate-tell
-slice-aggregate-tell c = search needs
-
-tell-requires-2 : tie.Need-tell-requires-2
-tell-requires-2 c κs = search needs
-
-slice-aggregate-tell-defective : tie.Need-slice-aggregate-tell-defective
-slice-aggregate-tell-defective c = search needs
-
-tell-defective-requires : tie.Need-tell-defective-requires
-tell-defective-requires c κs = search needs
+tell-image-requires : tie.Need-tell-image-requires
+tell-image-requires c κs = search needs
 
 returns : tie.Need-returns
 returns c = search needs
@@ -45,10 +33,6 @@ list-image-spec =
     enum-known-count
     list-networks-requires
     enum-known-defect
-    tell-requires
-    slice-aggregate-tell
-    tell-requires-2
-    slice-aggregate-tell-defective
-    tell-defective-requires
+    tell-image-requires
     returns
     returns-2)
