@@ -7,13 +7,15 @@ ghost use Rattle.listing.specs.Writing.{Written};
 ghost use Rattle.layouts.specs.Styles.{layoutAt};
 ghost use Rattle.filters.specs.Filter.{textIn};
 ghost use Rattle.filters.specs.Rows.{slashed, rowText, entryRows, entriesText};
+use layouts::FOOT;
 use layouts::Format;
+use layouts::SLASH;
 use layouts::put;
 use layouts::put_before;
 use layouts::put_end;
+use layouts::put_fixed;
 use layouts::put_head;
 use layouts::put_name;
-use layouts::put_text;
 use layouts::style_of;
 
 // Bytes that every filter fits into.
@@ -25,7 +27,7 @@ fn put_prefix(style: usize, address: &[u8], bits: u8, out: &mut [u8]) -> usize
     ensures { λ r. ⌜ Written (slashed (layoutAt style [] .slash) (now (address .entry)) bits) (now (out .entry)) (now (out .exit)) r ⌝ }
 {
     let mut at = ip_text::put_text(address, out);
-    at += put_text(8 * style + 4, &mut out[at..]);
+    at += put_fixed(8 * style + SLASH, &mut out[at..]);
     at + digits::put_decimal(bits as u16, &mut out[at..])
 }
 
@@ -93,7 +95,7 @@ fn put_entries(
     let n = put_before(style, name, &mut before);
     let mut at = put_head(style, name, out);
     at += put_rows(style, &before[..n], width, count, entries, &mut out[at..]);
-    at + put_text(8 * style + 7, &mut out[at..])
+    at + put_fixed(8 * style + FOOT, &mut out[at..])
 }
 
 // Writes the filter of a network with this handle and this range to the start of out, if that has room for every filter. Gives the number of

@@ -1,4 +1,4 @@
--- The names and the layouts of router filters, as bgpq4 writes them (S12.6, S12.7).
+-- The names and the layouts of router filters, as bgpq4 writes them (S12.7).
 use Prim.Native.Nat.{ℕ, suc}
 use Prim.Native.Char.{code}
 use Prim.Native.String.{String}
@@ -10,7 +10,7 @@ use Rattle.pieces.specs.Ascii.{ascii, isAlphanumeric}
 use Rattle.layouts.specs.declared.Format.{Format}
 use Rattle.layouts.specs.declared.Format.the-variants.{Plain, Cisco, Bird, Juniper, Json}
 
--- S12.6: whether a name of the format may have the byte c at place i
+-- S12.7: whether a name of the format may have the byte c at place i
 unfoldable pub isAllowed : Format → (i c : ℕ) → Bool
 isAllowed Plain i c = true
 isAllowed Cisco i c = isAlphanumeric c || contains c (ascii "-_.")
@@ -22,7 +22,7 @@ unfoldable pub nameFrom : Format → ℕ → List ℕ → List ℕ
 nameFrom f i [] = []
 nameFrom f i (c ∷ s) = cond (isAllowed f i c) c (code "_") ∷ nameFrom f (suc i) s
 
--- S12.6: the name of a filter is the handle, each byte that the format does not allow replaced by `_`
+-- S12.7: the name of a filter is the handle, each byte that the format does not allow replaced by `_`
 unfoldable pub nameIn : Format → (handle : List ℕ) → List ℕ
 nameIn f handle = nameFrom f 0 handle
 

@@ -1,4 +1,4 @@
-// The names and the layouts of router filters (S12.6, S12.7).
+// The names and the layouts of router filters (S12.7).
 ghost use mathlib.Core.Path.{_≡_};
 ghost use mathlib.Core.Bool.{cond, _||_};
 ghost use mathlib.Core.List.{[]};
@@ -71,7 +71,7 @@ fn name_byte(format: Format, i: usize, c: u8) -> u8
     b'_'
 }
 
-// The name of a filter (S12.6), of as many bytes as the handle.
+// The name of a filter (S12.7), of as many bytes as the handle.
 pub fn put_name(format: Format, handle: &[u8], out: &mut [u8]) -> usize
     requires { ⌜ length (now handle) ≤ length (now out) ⌝ }
     ensures { λ r. ⌜ Written (nameIn format (now (handle .entry))) (now (out .entry)) (now (out .exit)) r ⌝ }
@@ -90,8 +90,19 @@ pub fn put(s: &[u8], out: &mut [u8]) -> usize
     s.len()
 }
 
-// The texts of the layouts, one after another, eight for each style: before and after the name in the head, before and after the name before
-// each prefix, the slash, after each prefix but the last, after the last, at the end.
+// The texts of a layout by their numbers: the head before and after the name, what stands before each prefix, before and after the name, the
+// slash, what stands after each prefix but the last, after the last, and the foot.
+const BEFORE: usize = 2;
+
+pub const SLASH: usize = 4;
+
+const BETWEEN: usize = 5;
+
+const LAST: usize = 6;
+
+pub const FOOT: usize = 7;
+
+// The texts of all layouts, one after another, eight for each style.
 const TEXTS: [u8; 240] =
     *b" /\n\nno ip prefix-list \nip prefix-list  permit /\n\nno ipv6 prefix-list \nipv6 prefix-list  permit /\n\n = [\n    /,\n\n];\npolicy-options {\nreplace:\n prefix-list  {\n    /;\n;\n }\n}\n{ \"\": [\n    { \"prefix\": \"\\/\", \"exact\": true },\n\", \"exact\": true }\n] }\n";
 
@@ -187,7 +198,8 @@ fn put_part(s: &[u8], from: usize, end: usize, out: &mut [u8]) -> usize
     put(&s[from..end], out)
 }
 
-pub fn put_text(k: usize, out: &mut [u8]) -> usize
+// The text with a number.
+pub fn put_fixed(k: usize, out: &mut [u8]) -> usize
     requires { ⌜ (k < 48) × (length (textAt k) ≤ length (now out)) ⌝ }
     ensures { λ r. ⌜ Written (textAt k) (now (out .entry)) (now (out .exit)) r ⌝ }
 {
@@ -202,9 +214,9 @@ fn put_named(k: usize, name: &[u8], out: &mut [u8]) -> usize
     requires { ⌜ (k < 47) × (length (namedAt k (now name)) ≤ length (now out)) ⌝ }
     ensures { λ r. ⌜ Written (namedAt k (now (name .entry))) (now (out .entry)) (now (out .exit)) r ⌝ }
 {
-    let mut at = put_text(k, out);
+    let mut at = put_fixed(k, out);
     at += put(name, &mut out[at..]);
-    at + put_text(k + 1, &mut out[at..])
+    at + put_fixed(k + 1, &mut out[at..])
 }
 
 pub fn put_head(style: usize, name: &[u8], out: &mut [u8]) -> usize
@@ -222,9 +234,9 @@ pub fn put_before(style: usize, name: &[u8], out: &mut [u8]) -> usize
     ensures { λ r. ⌜ Written (layoutAt style (now (name .entry)) .before) (now (out .entry)) (now (out .exit)) r ⌝ }
 {
     if style < 3 {
-        return put_named(8 * style + 2, name, out);
+        return put_named(8 * style + BEFORE, name, out);
     }
-    put_text(8 * style + 2, out)
+    put_fixed(8 * style + BEFORE, out)
 }
 
 // What follows a prefix after which so many are left.
@@ -233,7 +245,7 @@ pub fn put_end(style: usize, left: usize, out: &mut [u8]) -> usize
     ensures { λ r. ⌜ Written (endOf (layoutAt style []) left) (now (out .entry)) (now (out .exit)) r ⌝ }
 {
     if left == 0 {
-        return put_text(8 * style + 6, out);
+        return put_fixed(8 * style + LAST, out);
     }
-    put_text(8 * style + 5, out)
+    put_fixed(8 * style + BETWEEN, out)
 }

@@ -8,78 +8,33 @@ mod known;
 
 ghost use Prim.Native.Nat.{_≤_, _<_};
 ghost use lib.ListN.{length};
+use entries::contents_span;
 use fields::Field;
-use fields::field_after;
 use fields::step_at;
+use files::part;
+use files::read_whole;
+use files::tell;
+use files::tell_defect;
+use files::tell_defective;
+use files::tell_image;
+use files::tell_name;
+use files::tell_number;
+use files::write_out;
 use fold::Folded;
 use fold::final_record;
 use image::Verdict;
+use image::Which;
 use image::index_from;
 use known::Known;
-use libc::STDERR_FILENO;
-use libc::STDOUT_FILENO;
 use libc::types::stat;
 use listing::put_bytes;
 
-// What is wrong: parts of a line on standard error.
+// What is wrong, on standard error.
 
-fn tell(text: &[u8]) {
-    io::write_all(STDERR_FILENO, text);
-}
-
-fn tell_number(n: u64) {
-    io::print_decimal(STDERR_FILENO, n);
-}
-
-fn wide(n: u32) -> u64 {
-    n as u64
-}
-
-// A defect in words.
-fn tell_defect(defect: u32, place: u32) {
-    match defect {
-        1 => tell(b"it is longer than 262144 bytes"),
-        2 => tell(b"it does not start with the bytes 01 00 01 01"),
-        3 => {
-            if place < 4096 {
-                tell(b"it is cut short or has an unknown tag");
-            } else {
-                tell(b"it comes after 4096 others");
-            }
-        }
-        4 => tell(b"an inner field is missing, out of order or of a wrong length"),
-        5 => tell(b"what a field holds is not of its form, or first is above last"),
-        6 => tell(b"it does not sort after the record before it"),
-        _ => tell(b"it overlaps an earlier block without lying inside it"),
-    }
-}
-
-// The handle of a record, if there is one.
-fn tell_handle(r: &[u8]) {
-    if r.len() == 0 {
-        return;
-    }
-    let before = if r[0] <= 0x12 { 1 } else { 0 };
-    let Field::Whole { tag: _, start, end } = field_after(r, 3, before) else {
-        return;
-    };
-    tell(b" (");
-    tell(&r[start..end]);
-    tell(b")");
-}
-
-// The defect of an image, and the record r that has it. Defects 1 and 2 are of no record.
-fn tell_defective(defect: u32, place: u32, r: &[u8]) {
-    tell(b"defect ");
-    tell_number(wide(defect));
-    if 2 < defect {
-        tell(b" in record ");
-        tell_number(wide(place));
-        tell_handle(r);
-    }
-    tell(b": ");
-    tell_defect(defect, place);
-    tell(b"\n");
+// The handle of a record; empty if there is none.
+fn handle_in(r: &[u8]) -> &[u8] {
+    let span = contents_span(r, 0, Which::Handle);
+    part(r, span.start, span.end)
 }
 
 // What is wrong with a change that holds r as the record to add.
@@ -93,16 +48,14 @@ fn tell_addition(r: &[u8])
                 tell(b"it holds no record");
             } else if count == 1 {
                 tell(b"it adds a record whose key is already there");
-                tell_handle(r);
+                tell_name(handle_in(r));
             } else {
                 tell(b"bytes follow its record");
             }
         }
         Verdict::Defective(defect, place) => {
             if place == 0 {
-                tell(b"its record has defect ");
-                tell_number(wide(defect));
-                tell(b": ");
+                tell(b"its record has ");
                 tell_defect(defect, place);
             } else {
                 tell(b"bytes follow its record");
@@ -129,9 +82,7 @@ fn tell_key(r: &[u8]) {
     if r[0] <= 0x12 {
         return;
     }
-    tell(b" (");
-    tell(&r[1..]);
-    tell(b")");
+    tell_name(&r[1..]);
 }
 
 // What is wrong with a change that holds r as the record to remove.
@@ -154,7 +105,7 @@ fn tell_change(changes: &[u8], at: usize)
         tell(b"it is cut short");
         return;
     };
-    let r = &changes[start..end];
+    let r = part(changes, start, end);
     if tag == 0x30 {
         tell_addition(r);
     } else if tag == 0x31 {
@@ -206,9 +157,7 @@ fn tell_refusal<'a>(
     requires { ⌜ length (now changes) ≤ 65536 ⌝ }
 {
     if r.reason == 2 {
-        tell(image_name);
-        tell(b": ");
-        tell_defective(r.defect, r.place, b"");
+        tell_image(image_name, r.defect, r.place);
         return;
     }
     tell(changes_name);
@@ -218,11 +167,8 @@ fn tell_refusal<'a>(
         return;
     }
     tell(b"the result would have ");
-    tell_defective(
-        r.defect,
-        r.place,
-        final_record(image, changes, r.place as usize),
-    );
+    let last = final_record(image, changes, r.place as usize);
+    tell_defective(r.defect, r.place, handle_in(last));
 }
 
 // The new file.
@@ -331,23 +277,10 @@ fn save(output: &[u8], bytes: &[u8]) -> bool
 
 // The number of bytes, on standard output.
 fn write_number(n: usize) {
-    if !io::print_decimal(STDOUT_FILENO, n as u64) {
-        os::fail(b"standard output");
-        return;
-    }
-    if !io::write_all(STDOUT_FILENO, b"\n") {
-        os::fail(b"standard output");
-    }
-}
-
-// The final image is the first bytes of the room.
-fn finish(output: &[u8], room: &[u8], n: usize)
-    requires { ⌜ length (now output) ≤ 4096 ⌝ }
-{
-    if n <= room.len() {
-        if save(output, &room[..n]) {
-            write_number(n);
-        }
+    let mut text = [0u8; 20];
+    let k = io::decimal(n as u64, &mut text);
+    if write_out(&text[..k]) {
+        write_out(b"\n");
     }
 }
 
@@ -363,65 +296,28 @@ fn fold_into<'a>(
     let mut room = [0u8; 262144];
     let r = rdap::fold(image, changes, &mut room);
     if r.reason == 0 {
-        finish(output, &room, r.count as usize);
+        let n = r.count as usize;
+        if save(output, part(&room, 0, n)) {
+            write_number(n);
+        }
     } else {
         tell_refusal(r, image, changes, image_name, changes_name);
     }
 }
 
-// The files that are read.
-
-// Reads what an open file holds into a room with one byte more than it may hold.
-fn read_open(fd: i32, name: &[u8], room: &mut [u8]) -> usize
-    requires { ⌜ 0 < length (now room) ⌝ }
+fn fold_with(image: &[u8], image_name: &[u8], changes_name: &[u8], output: &[u8])
+    requires { ⌜ length (now output) ≤ 4096 ⌝ }
 {
-    let n = io::read_full(fd, room);
-    if n == room.len() {
-        tell(name);
-        tell(b": longer than ");
-        tell_number((n - 1) as u64);
-        tell(b" bytes\n");
-        return n;
-    }
-    let mut more = [0u8; 1];
-    let left = libc::read(fd, &mut more);
-    if left != 0 {
-        os::fail(name);
-        return room.len();
-    }
-    n
-}
-
-// Reads a file whole into such a room. Where that fails, says so and gives the length of the room.
-fn read_whole(name: &[u8], room: &mut [u8]) -> usize
-    requires { ⌜ 0 < length (now room) ⌝ }
-{
-    let fd = os::open_read(name);
-    if fd < 0 {
-        os::fail(name);
-        return room.len();
-    }
-    let n = read_open(fd, name, room);
-    libc::close(fd);
-    n
-}
-
-// Folds files of n and m bytes, which are at the start of their rooms.
-fn fold_read<'a>(
-    image: &'a [u8],
-    n: usize,
-    changes: &'a [u8],
-    m: usize,
-    image_name: &[u8],
-    changes_name: &[u8],
-    output: &[u8],
-)
-    requires { ⌜ (length (now changes) ≤ 65537) × (length (now output) ≤ 4096) ⌝ }
-{
-    if n < image.len() {
-        if m < changes.len() {
-            fold_into(&image[..n], &changes[..m], image_name, changes_name, output);
-        }
+    let mut changes = [0u8; 65537];
+    let n = read_whole(changes_name, &mut changes);
+    if n <= 65536 {
+        fold_into(
+            image,
+            part(&changes, 0, n),
+            image_name,
+            changes_name,
+            output,
+        );
     }
 }
 
@@ -430,12 +326,9 @@ fn run(image_name: &[u8], changes_name: &[u8], output: &[u8])
 {
     let mut image = [0u8; 262145];
     let n = read_whole(image_name, &mut image);
-    if 262144 < n {
-        return;
+    if n <= 262144 {
+        fold_with(part(&image, 0, n), image_name, changes_name, output);
     }
-    let mut changes = [0u8; 65537];
-    let m = read_whole(changes_name, &mut changes);
-    fold_read(&image, n, &changes, m, image_name, changes_name, output);
 }
 
 fn main() {

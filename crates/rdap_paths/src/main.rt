@@ -10,23 +10,12 @@ ghost use lib.ListN.{length, take};
 ghost use Rattle.calls.specs.Calls.{answerOf};
 ghost use Rattle.lines.specs.Line.{lineText, room};
 ghost use Rattle.listing.specs.Writing.{Written};
-use libc::STDERR_FILENO;
-use libc::STDOUT_FILENO;
+use files::part;
+use files::read_whole;
+use files::tell;
+use files::write_out;
 
 // The output: what was put stands at the start of a buffer of 32,768 bytes and room for a line.
-
-fn write_out(bytes: &[u8]) {
-    if !io::write_all(STDOUT_FILENO, bytes) {
-        os::fail(b"standard output");
-    }
-}
-
-// Writes out what was put.
-fn flush(out: &[u8], at: usize) {
-    if at <= out.len() {
-        write_out(&out[..at]);
-    }
-}
 
 // Where the next line goes: after what was put, while that is short; else what was put is written out first.
 fn make_room(out: &[u8; 77868], at: usize) -> usize
@@ -35,7 +24,7 @@ fn make_room(out: &[u8; 77868], at: usize) -> usize
     if at < 32768 {
         return at;
     }
-    flush(out, at);
+    write_out(part(out, 0, at));
     0
 }
 
@@ -70,12 +59,11 @@ fn end_line(
     list: &mut [u32; 4096],
     out: &mut [u8; 77868],
 ) -> Kept {
-    let len = kept.line;
-    let mut at = make_room(out, kept.out);
-    if len <= line.len() {
-        at = put_answer(&line[..len], image, list, out, at);
+    let at = make_room(out, kept.out);
+    Kept {
+        line: 0,
+        out: put_answer(part(line, 0, kept.line), image, list, out, at),
     }
-    Kept { line: 0, out: at }
 }
 
 fn take_byte(
@@ -138,7 +126,7 @@ fn finish(
         let ended = end_line(line, kept, image, list, out);
         at = ended.out;
     }
-    flush(out, at);
+    write_out(part(out, 0, at));
 }
 
 // Answers the paths of a file whose first bytes are read. The turns are counted down from a number that no run uses up.
@@ -177,46 +165,17 @@ fn answer_paths(name: &[u8], image: &[u8]) {
     libc::close(fd);
 }
 
-// Reads the image whole into a room with one byte more than it may have. Where that fails, says so and gives a length that no image has.
-fn read_image(name: &[u8], image: &mut [u8; 65537]) -> usize {
-    let fd = os::open_read(name);
-    if fd < 0 {
-        os::fail(name);
-        return 65537;
+fn run(paths_name: &[u8], image_name: &[u8]) {
+    let mut image = [0u8; 65537];
+    let n = read_whole(image_name, &mut image);
+    if n <= 65536 {
+        answer_paths(paths_name, part(&image, 0, n));
     }
-    let n = io::read_full(fd, image);
-    if n == 65537 {
-        io::write_all(STDERR_FILENO, name);
-        io::write_all(STDERR_FILENO, b": longer than 65536 bytes\n");
-        libc::close(fd);
-        return n;
-    }
-    let mut more = [0u8; 1];
-    let left = libc::read(fd, &mut more);
-    if left != 0 {
-        os::fail(name);
-        libc::close(fd);
-        return 65537;
-    }
-    libc::close(fd);
-    n
-}
-
-// Answers the paths from an image of n bytes, which are at the start of the room.
-fn answer_from(paths_name: &[u8], room: &[u8], n: usize) {
-    if n < room.len() {
-        answer_paths(paths_name, &room[..n]);
-    }
-}
-
-fn run(paths_name: &[u8], image_name: &[u8], room: &mut [u8; 65537]) {
-    let n = read_image(image_name, room);
-    answer_from(paths_name, room, n);
 }
 
 fn main() {
     if os::arg_count() != 3 {
-        io::write_all(STDERR_FILENO, b"usage: rdap_paths PATHS IMAGE\n");
+        tell(b"usage: rdap_paths PATHS IMAGE\n");
         return;
     }
     let mut paths = io::buffer();
@@ -231,6 +190,5 @@ fn main() {
         os::fail(b"IMAGE");
         return;
     }
-    let mut room = [0u8; 65537];
-    run(&paths[..p], &image[..i], &mut room);
+    run(&paths[..p], &image[..i]);
 }

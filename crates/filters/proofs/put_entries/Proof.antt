@@ -52,31 +52,31 @@ add-at c =
     let r = rw e at (c .before .before .put-rows .ensures) in
     omega (arith, r .size)
 
-mul-put-text : tie.Need-mul-put-text
-mul-put-text c = search needs
+mul-put-fixed : tie.Need-mul-put-fixed
+mul-put-fixed c = search needs
 
-add-put-text : tie.Need-add-put-text
-add-put-text c = search needs
+add-put-fixed : tie.Need-add-put-fixed
+add-put-fixed c = search needs
 
-sub-put-text : tie.Need-sub-put-text
-sub-put-text c =
+sub-put-fixed : tie.Need-sub-put-fixed
+sub-put-fixed c =
     let h = simp length-append at (c .before .before .before .before .before .before .before .before .before .before .before .before .before .before .before .pre .4) in
     let e = written-front (c .before .before .before .before .before .before .before .before .before .before .put-before .ensures) in
     let r = rw e at (c .before .before .put-rows .ensures) in
     omega (arith, r .size)
 
-part-put-text-start : tie.Need-part-put-text-start
-part-put-text-start c =
+part-put-fixed-start : tie.Need-part-put-fixed-start
+part-put-fixed-start c =
     let h = simp length-append at (c .before .before .before .before .before .before .before .before .before .before .before .before .before .before .before .pre .4) in
     let e = written-front (c .before .before .before .before .before .before .before .before .before .before .put-before .ensures) in
     let r = rw e at (c .before .before .put-rows .ensures) in
     omega (arith, r .size)
 
-part-put-text-end : tie.Need-part-put-text-end
-part-put-text-end c = search needs
+part-put-fixed-end : tie.Need-part-put-fixed-end
+part-put-fixed-end c = search needs
 
-put-text-requires : tie.Need-put-text-requires
-put-text-requires c κs =
+put-fixed-requires : tie.Need-put-fixed-requires
+put-fixed-requires c κs =
     let h = simp length-append at (c .before .before .before .before .before .before .before .before .before .before .before .before .before .before .before .before .pre .4) in
     let e = written-front (c .before .before .before .before .before .before .before .before .before .before .before .put-before .ensures) in
     let r = rw e at (c .before .before .before .put-rows .ensures) in
@@ -95,7 +95,7 @@ same-length c = search needs
 returns : tie.Need-returns
 returns c =
     let e = written-front (c .before .before .before .before .before .before .before .before .before .before .before .before .before .before .put-before .ensures) in
-    written-both (written-both (c .before .before .before .before .before .before .before .before .before .before .before .put-head .ensures) (rw e at (c .before .before .before .before .before .before .put-rows .ensures))) (c .before .before .put-text .ensures)
+    written-both (written-both (c .before .before .before .before .before .before .before .before .before .before .before .put-head .ensures) (rw e at (c .before .before .before .before .before .before .put-rows .ensures))) (c .before .before .put-fixed .ensures)
 
 pub put-entries-spec : {M : Type 1} → statement M
 put-entries-spec =
@@ -111,12 +111,12 @@ put-entries-spec =
     part-put-rows-end
     put-rows-requires
     add-at
-    mul-put-text
-    add-put-text
-    sub-put-text
-    part-put-text-start
-    part-put-text-end
-    put-text-requires
+    mul-put-fixed
+    add-put-fixed
+    sub-put-fixed
+    part-put-fixed-start
+    part-put-fixed-end
+    put-fixed-requires
     add-result
     same-length
     returns)

@@ -5,34 +5,34 @@ use Rattle.listing.proofs.Writing.{rest-length, written-both}
 use borrow.Author.Needs.{needs}
 use Rattle.filters.proofs.put_prefix.Statement.{statement}
 use Rattle.filters.proofs.put_prefix.Tie as tie
-use Rattle.ip_text.proofs.put_text.Reads as put-text-reads′
+use Rattle.ip_text.proofs.put_text.Reads as put-text-reads
 
 put-text-requires : tie.Need-put-text-requires
 put-text-requires c κs =
     let h = simp length-append at (c .before .before .before .pre .2) in
     (c .before .before .before .pre .1, omega arith)
 
-mul-put-text : tie.Need-mul-put-text
-mul-put-text c = search needs
+mul-put-fixed : tie.Need-mul-put-fixed
+mul-put-fixed c = search needs
 
-add-put-text : tie.Need-add-put-text
-add-put-text c = search needs
+add-put-fixed : tie.Need-add-put-fixed
+add-put-fixed c = search needs
 
-sub-put-text : tie.Need-sub-put-text
-sub-put-text c =
+sub-put-fixed : tie.Need-sub-put-fixed
+sub-put-fixed c =
     let h = simp length-append at (c .before .before .before .before .before .before .pre .2) in
     omega arith
 
-part-put-text-start : tie.Need-part-put-text-start
-part-put-text-start c =
+part-put-fixed-start : tie.Need-part-put-fixed-start
+part-put-fixed-start c =
     let h = simp length-append at (c .before .before .before .before .before .before .pre .2) in
     omega arith
 
-part-put-text-end : tie.Need-part-put-text-end
-part-put-text-end c = search needs
+part-put-fixed-end : tie.Need-part-put-fixed-end
+part-put-fixed-end c = search needs
 
-put-text-requires-2 : tie.Need-put-text-requires-2
-put-text-requires-2 c κs =
+put-fixed-requires : tie.Need-put-fixed-requires
+put-fixed-requires c κs =
     let h = simp length-append at (c .before .before .before .before .before .before .before .pre .2) in
     (omega arith, rw rest-length (omega arith))
 
@@ -68,19 +68,19 @@ same-length : tie.Need-same-length
 same-length c = search needs
 
 returns : tie.Need-returns
-returns c = written-both (written-both (c .before .before .before .before .before .before .before .before .before .before .put-text .ensures) (c .before .before .before .before .before .before .put-text2 .ensures)) (c .before .before .put-decimal .ensures)
+returns c = written-both (written-both (c .before .before .before .before .before .before .before .before .before .before .put-text .ensures) (c .before .before .before .before .before .before .put-fixed .ensures)) (c .before .before .put-decimal .ensures)
 
 pub put-prefix-spec : {M : Type 1} → statement M
 put-prefix-spec =
     tie.close
     (tie.spec
     put-text-requires
-    mul-put-text
-    add-put-text
-    sub-put-text
-    part-put-text-start
-    part-put-text-end
-    put-text-requires-2
+    mul-put-fixed
+    add-put-fixed
+    sub-put-fixed
+    part-put-fixed-start
+    part-put-fixed-end
+    put-fixed-requires
     add-at
     sub-put-decimal
     part-put-decimal-start

@@ -20,20 +20,20 @@ same-length c = search needs
 returns : tie.Need-returns
 returns c = rw (lt-ltb (c .before .before .before .before .before .before .before .args .style) 3 (omega arith)) (c .before .before .put-named .ensures)
 
-mul-put-text : tie.Need-mul-put-text
-mul-put-text c = search needs
+mul-put-fixed : tie.Need-mul-put-fixed
+mul-put-fixed c = search needs
 
-add-put-text : tie.Need-add-put-text
-add-put-text c = search needs
+add-put-fixed : tie.Need-add-put-fixed
+add-put-fixed c = search needs
 
-put-text-requires : tie.Need-put-text-requires
-put-text-requires c κs = (omega arith, rw (le-ltb (c .before .before .before .before .args .style) 3 (omega arith)) at (c .before .before .before .before .pre .1))
+put-fixed-requires : tie.Need-put-fixed-requires
+put-fixed-requires c κs = (omega arith, rw (le-ltb (c .before .before .before .before .args .style) 3 (omega arith)) at (c .before .before .before .before .pre .1))
 
 same-length-2 : tie.Need-same-length-2
 same-length-2 c = search needs
 
 returns-2 : tie.Need-returns-2
-returns-2 c = rw (le-ltb (c .before .before .before .before .before .before .before .args .style) 3 (omega arith)) (c .before .before .put-text .ensures)
+returns-2 c = rw (le-ltb (c .before .before .before .before .before .before .before .args .style) 3 (omega arith)) (c .before .before .put-fixed .ensures)
 
 pub put-before-spec : {M : Type 1} → statement M
 put-before-spec =
@@ -44,8 +44,8 @@ put-before-spec =
     put-named-requires
     same-length
     returns
-    mul-put-text
-    add-put-text
-    put-text-requires
+    mul-put-fixed
+    add-put-fixed
+    put-fixed-requires
     same-length-2
     returns-2)

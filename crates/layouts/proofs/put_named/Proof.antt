@@ -6,8 +6,8 @@ use borrow.Author.Needs.{needs}
 use Rattle.layouts.proofs.put_named.Statement.{statement}
 use Rattle.layouts.proofs.put_named.Tie as tie
 
-put-text-requires : tie.Need-put-text-requires
-put-text-requires c κs =
+put-fixed-requires : tie.Need-put-fixed-requires
+put-fixed-requires c κs =
     let h = simp length-append at (c .before .before .before .pre .1) in
     (omega arith, omega arith)
 
@@ -34,24 +34,24 @@ add-at c =
     let h = simp length-append at (c .before .before .before .before .before .before .before .before .before .before .pre .1) in
     omega arith
 
-add-put-text : tie.Need-add-put-text
-add-put-text c = search needs
+add-put-fixed : tie.Need-add-put-fixed
+add-put-fixed c = search needs
 
-sub-put-text : tie.Need-sub-put-text
-sub-put-text c =
+sub-put-fixed : tie.Need-sub-put-fixed
+sub-put-fixed c =
     let h = simp length-append at (c .before .before .before .before .before .before .before .before .before .before .pre .1) in
     omega arith
 
-part-put-text-start : tie.Need-part-put-text-start
-part-put-text-start c =
+part-put-fixed-start : tie.Need-part-put-fixed-start
+part-put-fixed-start c =
     let h = simp length-append at (c .before .before .before .before .before .before .before .before .before .before .pre .1) in
     omega arith
 
-part-put-text-end : tie.Need-part-put-text-end
-part-put-text-end c = search needs
+part-put-fixed-end : tie.Need-part-put-fixed-end
+part-put-fixed-end c = search needs
 
-put-text-requires-2 : tie.Need-put-text-requires-2
-put-text-requires-2 c κs =
+put-fixed-requires-2 : tie.Need-put-fixed-requires-2
+put-fixed-requires-2 c κs =
     let h = simp length-append at (c .before .before .before .before .before .before .before .before .before .before .before .pre .1) in
     (omega arith, rw rest-length (omega arith))
 
@@ -64,23 +64,23 @@ same-length : tie.Need-same-length
 same-length c = search needs
 
 returns : tie.Need-returns
-returns c = written-both (written-both (c .before .before .before .before .before .before .before .before .before .before .put-text .ensures) (c .before .before .before .before .before .before .put .ensures)) (c .before .before .put-text2 .ensures)
+returns c = written-both (written-both (c .before .before .before .before .before .before .before .before .before .before .put-fixed .ensures) (c .before .before .before .before .before .before .put .ensures)) (c .before .before .put-fixed2 .ensures)
 
 pub put-named-spec : {M : Type 1} → statement M
 put-named-spec =
     tie.close
     (tie.spec
-    put-text-requires
+    put-fixed-requires
     sub-put
     part-put-start
     part-put-end
     put-requires
     add-at
-    add-put-text
-    sub-put-text
-    part-put-text-start
-    part-put-text-end
-    put-text-requires-2
+    add-put-fixed
+    sub-put-fixed
+    part-put-fixed-start
+    part-put-fixed-end
+    put-fixed-requires-2
     add-result
     same-length
     returns)

@@ -3,8 +3,8 @@ use native.Mathlib.Omega.{arith}
 use Rattle.layouts.specs.Styles.{textAt}
 use Rattle.layouts.proofs.Styles.{in-order, in-texts, texts-length, text-length}
 use borrow.Author.Needs.{needs}
-use Rattle.layouts.proofs.put_text.Statement.{statement}
-use Rattle.layouts.proofs.put_text.Tie as tie
+use Rattle.layouts.proofs.put_fixed.Statement.{statement}
+use Rattle.layouts.proofs.put_fixed.Tie as tie
 
 start-of-requires : tie.Need-start-of-requires
 start-of-requires c κs = search needs
@@ -34,8 +34,8 @@ returns : tie.Need-returns
 unfolding textAt
 returns c = rw (c .before .before .before .before .before .before .before .start-of .ensures, c .before .before .before .before .before .before .start-of2 .ensures, c .before .before .before .before .before .all-texts .ensures) at (c .before .before .put-part .ensures)
 
-pub put-text-spec : {M : Type 1} → statement M
-put-text-spec =
+pub put-fixed-spec : {M : Type 1} → statement M
+put-fixed-spec =
     tie.close
     (tie.spec
     start-of-requires

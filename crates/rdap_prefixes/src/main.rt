@@ -1,0 +1,253 @@
+// Writes the prefixes of the IP networks of an image, as filters for routers.
+//
+// rdap_prefixes IMAGE [FORMAT] [--all]
+//
+// One list for each active network, in image order; with --all for the others too. FORMAT is plain, cisco, bird, juniper or json.
+// IMAGE has at most 262,144 bytes. If two lists would have the same name, a router would keep one of them: then nothing is written.
+mod names;
+mod networks;
+
+ghost use Prim.Native.Nat.{_≤_};
+ghost use lib.ListN.{length};
+ghost use Rattle.image.specs.Index.{Indexed};
+use entries::first_from;
+use files::part;
+use files::read_whole;
+use files::tell;
+use files::tell_image;
+use files::tell_record;
+use files::write_out;
+use filters::put_filter;
+use image::Verdict;
+use image::Which;
+use image::index;
+use layouts::Format;
+use name::equal;
+use names::Clash;
+use names::clash_of;
+use names::put_name_at;
+use networks::is_listed;
+use networks::part_at;
+use networks::place_of;
+
+// The output: what was put stands at the start of a buffer of 32,768 bytes and room for a list.
+const SPACE: usize = 32768 + filters::ROOM;
+
+enum Put {
+    At(usize),
+    Failed,
+}
+
+fn flush(out: &[u8; SPACE], at: usize) -> bool {
+    write_out(part(out, 0, at))
+}
+
+// Puts the list of the network at a place after what was put. Gives where it ends.
+fn put_list(image: &[u8], place: u32, format: Format, out: &mut [u8], at: usize) -> usize
+    requires { ⌜ at ≤ length (now out) ⌝ }
+{
+    let handle = part_at(image, place, Which::Handle);
+    let range = part_at(image, place, Which::Range);
+    at + put_filter(format, handle, range, &mut out[at..])
+}
+
+// The same where there may be no room: then what was put is written out first.
+fn put_next(image: &[u8], place: u32, format: Format, out: &mut [u8; SPACE], at: usize) -> Put {
+    if at < 32768 {
+        return Put::At(put_list(image, place, format, out, at));
+    }
+    if flush(out, at) {
+        return Put::At(put_list(image, place, format, out, 0));
+    }
+    Put::Failed
+}
+
+// Writes the lists of the networks, which are the records before a number.
+fn write_lists(image: &[u8], places: &[u32; 4096], until: u32, format: Format, all: bool) {
+    let mut out = [0u8; SPACE];
+    let mut at: usize = 0;
+    for i in 0..until {
+        let place = place_of(places, i);
+        if is_listed(image, place, all) {
+            match put_next(image, place, format, &mut out, at) {
+                Put::At(next) => at = next,
+                Put::Failed => return,
+            }
+        }
+    }
+    flush(&out, at);
+}
+
+// A network, after a text.
+fn tell_network(before: &[u8], image: &[u8], places: &[u32; 4096], number: u32) {
+    tell(before);
+    tell_record(
+        number,
+        part_at(image, place_of(places, number), Which::Handle),
+    );
+}
+
+fn tell_list_name(image: &[u8], place: u32, format: Format) {
+    let mut room = [0u8; 64];
+    let n = put_name_at(image, place, format, &mut room);
+    tell(part(&room, 0, n));
+}
+
+// That two networks would have the same name.
+fn tell_clash(
+    image: &[u8],
+    places: &[u32; 4096],
+    first: u32,
+    second: u32,
+    format: Format,
+    image_name: &[u8],
+) {
+    tell(image_name);
+    tell_network(b": records ", image, places, first);
+    tell_network(b" and ", image, places, second);
+    tell(b" would both be named ");
+    tell_list_name(image, place_of(places, second), format);
+    tell(b"\n");
+}
+
+// Networks have the lowest tags, IPv4 before IPv6.
+fn list_networks(
+    image: &[u8],
+    places: &[u32; 4096],
+    count: u32,
+    format: Format,
+    all: bool,
+    image_name: &[u8],
+)
+    requires { ⌜ Indexed (now image) count (now places) ⌝ }
+{
+    let middle = first_from(image, places, count, 0x11);
+    let until = first_from(image, places, count, 0x12);
+    match clash_of(image, places, middle, until, format, all) {
+        Clash::Nothing => write_lists(image, places, until, format, all),
+        Clash::Of(first, second) => tell_clash(image, places, first, second, format, image_name),
+    }
+}
+
+fn list_image(image: &[u8], format: Format, all: bool, image_name: &[u8]) {
+    let mut places = [0u32; 4096];
+    match index(image, &mut places) {
+        Verdict::Sound(count) => list_networks(image, &places, count, format, all, image_name),
+        Verdict::Defective(defect, place) => tell_image(image_name, defect, place),
+    }
+}
+
+fn list_file(image_name: &[u8], format: Format, all: bool) {
+    let mut image = [0u8; 262145];
+    let n = read_whole(image_name, &mut image);
+    if n <= 262144 {
+        list_image(part(&image, 0, n), format, all, image_name);
+    }
+}
+
+// The arguments.
+
+// The numbers of the arguments IMAGE and FORMAT, 0 for none, and whether --all is among them.
+struct Arguments {
+    image: usize,
+    format: usize,
+    all: bool,
+}
+
+fn is_all(i: usize) -> bool {
+    let mut word = [0u8; 5];
+    let n = os::arg(i, &mut word);
+    equal(&word[..n], b"--all")
+}
+
+// One argument more. A third besides --all is one too many: then there is no IMAGE.
+fn taken(before: Arguments, i: usize) -> Arguments {
+    let mut a = before;
+    if os::arg_count() <= i {
+        return a;
+    }
+    if is_all(i) {
+        a.all = true;
+    } else if a.image == 0 {
+        a.image = i;
+    } else if a.format == 0 {
+        a.format = i;
+    } else {
+        a.image = 0;
+    }
+    a
+}
+
+fn read_arguments() -> Arguments {
+    let none = Arguments {
+        image: 0,
+        format: 0,
+        all: false,
+    };
+    taken(taken(taken(none, 1), 2), 3)
+}
+
+enum Choice {
+    Of(Format),
+    Unknown,
+}
+
+fn router_named(word: &[u8]) -> Choice {
+    if equal(word, b"cisco") {
+        return Choice::Of(Format::Cisco);
+    }
+    if equal(word, b"bird") {
+        return Choice::Of(Format::Bird);
+    }
+    if equal(word, b"juniper") {
+        return Choice::Of(Format::Juniper);
+    }
+    Choice::Unknown
+}
+
+fn format_named(word: &[u8]) -> Choice {
+    if equal(word, b"plain") {
+        return Choice::Of(Format::Plain);
+    }
+    if equal(word, b"json") {
+        return Choice::Of(Format::Json);
+    }
+    router_named(word)
+}
+
+// The format that is asked for, if the arguments are right: at most three.
+fn format_of(a: Arguments) -> Choice {
+    if 4 < os::arg_count() {
+        return Choice::Unknown;
+    }
+    if a.image == 0 {
+        return Choice::Unknown;
+    }
+    if a.format == 0 {
+        return Choice::Of(Format::Plain);
+    }
+    let mut word = [0u8; 7];
+    let n = os::arg(a.format, &mut word);
+    format_named(&word[..n])
+}
+
+// Lists the image that argument i names.
+fn run(i: usize, format: Format, all: bool) {
+    let mut name = io::buffer();
+    let n = os::arg(i, &mut name);
+    if os::errno() != 0 {
+        os::fail(b"IMAGE");
+        return;
+    }
+    list_file(&name[..n], format, all);
+}
+
+fn main() {
+    let a = read_arguments();
+    match format_of(a) {
+        Choice::Of(format) => run(a.image, format, a.all),
+        Choice::Unknown => {
+            tell(b"usage: rdap_prefixes IMAGE [plain|cisco|bird|juniper|json] [--all]\n");
+        }
+    }
+}
