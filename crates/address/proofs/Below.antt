@@ -2,7 +2,7 @@
 use Prim.Native.Nat.{ℕ, zero, suc, _+_, _<_}
 use mathlib.Core.List.{List, [], _∷_, _++_}
 use native.Mathlib.Omega.{arith}
-use lib.ListN.{length, take, drop, replicate, length-take, length-drop}
+use lib.ListN.{take, drop, replicate, length-take, length-drop}
 use lib.Seq.{getD-take, getD-drop}
 use Rattle.address.specs.Number.{Digits}
 

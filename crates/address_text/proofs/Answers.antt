@@ -1,6 +1,6 @@
 -- The answers of the call, from the room that there is and what was written.
 use Prim.Native.Nat.{ℕ, _≤_, _<_}
-use mathlib.Core.Path.{_≡_, refl}
+use mathlib.Core.Path.{_≡_}
 use mathlib.Core.List.{List}
 use mathlib.Core.Bool.{true, _||_}
 use native.Mathlib.Decide.{ℕ-discrete}

@@ -1,6 +1,5 @@
 -- Reading the written form gives the address back; so spellings of one address, and no others, have one written form.
 use Prim.Native.Nat.{ℕ, zero, suc, _+_, _-_, _*_, _/_, _%_, _≤_, _<_}
-use Prim.Native.Char.{code}
 use mathlib.Core.Path.{_≡_, refl, sym, ap, _∙_}
 use mathlib.Core.List.{List, [], _∷_, _++_, append-assoc}
 use mathlib.Core.Bool.{Bool, true, false, cond, _&&_, _||_}
@@ -10,7 +9,7 @@ use native.Mathlib.Decide.{ℕ-discrete}
 use lib.Dec.{eqb, leb, ltb}
 use lib.ListN.{length, getD, take, drop, replicate, length-drop}
 use lib.Seq.{drop-cons, take-at}
-use borrow.Author.Tests.{eqb-true, le-leb, lt-leb, leb-true, ltb-true, ltb-false, le-ltb}
+use borrow.Author.Tests.{eqb-true, le-leb, lt-leb, leb-true, ltb-false}
 use Rattle.address.specs.Lists.{contains}
 use Rattle.address.specs.Number.{Digits, Bytes}
 use Rattle.address.specs.Positions.{Wide}
@@ -21,8 +20,6 @@ use Rattle.pieces.proofs.Cuts.{split-then, split-whole, contains-known}
 use Rattle.pieces.proofs.Found.{none-some}
 use Rattle.numeral.specs.Numeral.{digitValue, h16}
 use Rattle.numeral.specs.Digits.{hexText, following, spelled}
-use Rattle.numeral.proofs.Laws.{digits-lack}
-use Rattle.numeral.proofs.Digits.{text-digits}
 use Rattle.numeral.proofs.Spelled.{spelled-least, spelled-lacks}
 use Rattle.ip.specs.Ip.{prefixed, joined, twoBytes, group, orElse, lastGroup, groups, side, elided, ipv4, ipv6, addressOf}
 use Rattle.ip.proofs.Answers.{address-four, address-wide}

@@ -1,6 +1,6 @@
 -- How long a text is: at most 15 bytes for four decimals, at most 39 for eight groups.
-use Prim.Native.Nat.{ℕ, suc, _+_, _-_, _*_, _≤_, _<_}
-use mathlib.Core.Path.{_≡_, refl, ap}
+use Prim.Native.Nat.{ℕ, _+_, _-_, _*_, _≤_}
+use mathlib.Core.Path.{_≡_, refl}
 use mathlib.Core.List.{List, [], _∷_, _++_}
 use mathlib.Core.Bool.{Bool, true, false, cond}
 use native.Mathlib.Omega.{arith}
@@ -12,7 +12,7 @@ use Rattle.address.specs.Number.{Digits, Bytes}
 use Rattle.address.specs.Positions.{Wide}
 use Rattle.address.proofs.Below.{digits-take, digits-drop}
 use Rattle.pieces.specs.Ascii.{ascii}
-use Rattle.numeral.proofs.Spelled.{spelled-most, spelled-bound, spelled-least}
+use Rattle.numeral.proofs.Spelled.{spelled-most, spelled-bound}
 use Rattle.ip_text.specs.Text.{dotted, colons, groupsOf, longestRun, runAt, shortened, isMapped, ipv6Text, textOf}
 use Rattle.ip_text.proofs.Groups.{groups-count, groups-below}
 use Rattle.ip_text.proofs.Runs.{beside-run}

@@ -1,17 +1,17 @@
 // The names and the layouts of router filters (S12.7).
 ghost use mathlib.Core.Path.{_≡_};
-ghost use mathlib.Core.Bool.{cond, _||_};
+ghost use mathlib.Core.Bool.{cond};
 ghost use mathlib.Core.List.{[]};
 ghost use Prim.Native.Nat.{_+_, _-_, _≤_, _<_};
 ghost use lib.ListN.{length, take, drop};
-ghost use Rattle.address.specs.Lists.{contains};
-ghost use Rattle.pieces.specs.Ascii.{code, isAlphanumeric};
+ghost use Rattle.pieces.specs.Ascii.{code};
 ghost use Rattle.listing.specs.Writing.{Written};
 ghost use Rattle.layouts.specs.Layout.{isAllowed, nameIn, endOf};
 ghost use Rattle.layouts.specs.Styles.{styleOf, texts, startOf, textAt, namedAt, layoutAt};
 use listing::put_bytes;
 use pieces::between;
 use pieces::has_byte;
+use pieces::is_word;
 
 // How the prefixes are written.
 pub enum Format {
@@ -20,22 +20,6 @@ pub enum Format {
     Bird,
     Juniper,
     Json,
-}
-
-// Whether c is a letter, a digit or one of others.
-fn is_word(c: u8, others: &[u8]) -> bool
-    ensures { λ r. ⌜ r ≡ (isAlphanumeric c || contains c (now (others .entry))) ⌝ }
-{
-    if between(b'0', b'9', c) {
-        return true;
-    }
-    if between(b'A', b'Z', c) {
-        return true;
-    }
-    if between(b'a', b'z', c) {
-        return true;
-    }
-    has_byte(c, others)
 }
 
 fn is_bird(i: usize, c: u8) -> bool

@@ -3,9 +3,10 @@ use Prim.Native.Nat.{ℕ, zero, suc, _+_, _-_, _*_, _/_, _%_, _^_, _<_}
 use mathlib.Core.Path.{_≡_, refl, sym, ap, _∙_}
 use mathlib.Core.List.{List, [], _∷_, _++_, append-assoc, append-nil}
 use native.Mathlib.Omega.{arith}
-use native.Mathlib.Nat.{pow-suc}
+use native.Mathlib.Nat.{pow-suc, mod-lt}
 use lib.ListN.{length, take, getD, length-append}
-use Rattle.address.specs.Number.{value, valueFrom}
+use Rattle.address.specs.Number.{value, valueFrom, Bytes}
+use Rattle.address.proofs.Below.{digits-none, digits-cons, digits-append}
 use Rattle.address.proofs.Digits.{append-from}
 use Rattle.prefixes.specs.Call.{bigEndian}
 use Rattle.prefixes.specs.Answers.{BytesReadBack}
@@ -15,6 +16,12 @@ pub length-bytes : (n v : ℕ) → length (bigEndian n v) ≡ n
 unfolding bigEndian
 length-bytes zero v = refl
 length-bytes (suc n) v = length-append (bigEndian n (v / 256)) (v % 256 ∷ []) ∙ omega (arith, length-bytes n (v / 256))
+
+pub bytes-small : (n v : ℕ) → Bytes (bigEndian n v)
+unfolding bigEndian
+bytes-small zero v = digits-none 256
+bytes-small (suc n) v =
+    digits-append 256 (bigEndian n (v / 256)) (v % 256 ∷ []) (bytes-small n (v / 256)) (digits-cons 256 (v % 256) [] (mod-lt v (omega arith)) (digits-none 256))
 
 -- of two digits to the base 256 ^ m
 pub bytes-joined : (n m h l : ℕ) → l < 256 ^ m → bigEndian (n + m) (h * 256 ^ m + l) ≡ bigEndian n h ++ bigEndian m l

@@ -19,7 +19,7 @@ pub const LONGEST_IMAGE: usize = 262_144;
 pub const MOST_RECORDS: usize = 4096;
 /// "IPv4 never needs more than 62 prefixes [...], IPv6 never more than 254"
 pub const MOST_PREFIXES: usize = 254;
-/// "At most 39 bytes"
+/// "IPv4 never needs more than 15 bytes, IPv6 never more than 39."
 pub const LONGEST_TEXT: usize = 39;
 /// "A change file is a row of fields, too, at most 65,536 bytes of them."
 pub const LONGEST_CHANGES: usize = 65_536;
@@ -320,14 +320,16 @@ pub fn prefixes(range: &[u8], out: &mut [u8]) -> Counted {
     }
 }
 
-/// "IPv4 is four decimals and IPv6 the RFC 5952 form"
+/// "IPv4 is written as four decimals joined by dots. IPv6 is written in the form of
+/// RFC 5952"
 pub fn address_text(address: &[u8], text: &mut [u8]) -> Counted {
     let written = match address.len() {
         4 => ipv4_text(address),
         16 => ipv6_text(address),
         _ => return Counted::refused(),
     };
-    // "less room than the text needs is reason 9", and count is the bytes needed
+    // "9, with the number of bytes needed as count, if the buffer has fewer bytes
+    // than the text"
     Counted {
         reason: put(written.as_bytes(), text),
         count: written.len() as u32,
@@ -1378,14 +1380,15 @@ fn read_groups(text: &[u8], tail: bool) -> Option<Vec<u128>> {
     Some(groups)
 }
 
-/// The bytes of an address as "four decimals".
+/// The bytes of an address as "four decimals joined by dots".
 fn ipv4_text(address: &[u8]) -> String {
     let decimals: Vec<String> = address.iter().map(u8::to_string).collect();
     decimals.join(".")
 }
 
-/// "lower case, longest run of at least two zero groups shortened, the first of
-/// equal ones, a dotted tail for ::ffff:0:0/96 and no other"
+/// "in lower case and without leading zeros, joined by colons; the longest run of
+/// at least two zero groups shortened to `::`, the first of equal ones; a dotted
+/// tail [...] for ::ffff:0:0/96 and no other"
 fn ipv6_text(address: &[u8]) -> String {
     let (start, tail) = address.split_at(12);
     if start == [0, 0, 0, 0, 0, 0, 0, 0, 0, 0, 0xFF, 0xFF] {

@@ -1,6 +1,6 @@
 -- The digits counted so far, and those of what is left of the number, are one more than all.
 use Prim.Native.Nat.{_+_, _/_, _≤_, _<_}
-use mathlib.Core.Path.{_≡_, refl}
+use mathlib.Core.Path.{_≡_}
 use native.Mathlib.Omega.{arith}
 use native.Mathlib.Nat.{div-lt-self}
 use lib.ListN.{length}

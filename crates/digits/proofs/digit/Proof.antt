@@ -1,5 +1,5 @@
 -- `digit` by its two cases.
-use mathlib.Core.Path.{sym, _∙_}
+use mathlib.Core.Path.{sym}
 use native.Mathlib.Omega.{arith}
 use Rattle.numeral.proofs.Digits.{digit-low, digit-high}
 use borrow.Author.Needs.{needs}

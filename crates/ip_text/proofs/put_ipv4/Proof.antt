@@ -1,5 +1,4 @@
 -- The octets are the address.
-use Rattle.ip_text.specs.Text.{dotted}
 use borrow.Author.Needs.{needs}
 use Rattle.ip_text.proofs.put_ipv4.Statement.{statement}
 use Rattle.ip_text.proofs.put_ipv4.Tie as tie

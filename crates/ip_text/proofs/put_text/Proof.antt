@@ -1,6 +1,5 @@
 -- By the length of the address.
 use Rattle.ip_text.proofs.Lengths.{ipv4-text, ipv6-text}
-use native.Mathlib.Omega.{arith}
 use borrow.Author.Needs.{needs}
 use Rattle.ip_text.proofs.put_text.Statement.{statement}
 use Rattle.ip_text.proofs.put_text.Tie as tie
