@@ -20,7 +20,8 @@ use Rattle.cidr.proofs.Theorem.{shortest}
 use Rattle.prefixes.specs.declared.Prefixed.{Prefixed}
 use Rattle.prefixes.specs.Call.{IpRange, entriesOf, ipRange, ipRangeOf, prefixesIn, entriesIn, prefixedOf, bufferAfter}
 use Rattle.prefixes.specs.Answers.{AnswersShortest}
-use Rattle.prefixes.specs.Entries.{between, walked, Ordered}
+use Rattle.next_prefix.specs.Walked.{between, walked}
+use Rattle.prefixes.specs.Entries.{Ordered}
 use Rattle.prefixes.proofs.Writing.{by-width}
 use Rattle.prefixes.proofs.Room.{at-width}
 

@@ -1,7 +1,3 @@
-pub mod Digits
-pub mod Ends
-pub mod Tops
-pub mod Walk
 pub mod Falling
 pub mod Bytes
 pub mod Writing

@@ -14,7 +14,8 @@ use Rattle.cidr.specs.Prefixes.{Prefix, prefixesOf}
 use Rattle.cidr.proofs.Greedy.{wider}
 use Rattle.cidr.proofs.Theorem.{shortest}
 use Rattle.prefixes.specs.Call.{entriesOf}
-use Rattle.prefixes.specs.Entries.{between, walked, Ordered, fitOf}
+use Rattle.next_prefix.specs.Walked.{between, walked}
+use Rattle.prefixes.specs.Entries.{Ordered, fitOf}
 use Rattle.prefixes.specs.declared.Fit.the-variants.{Enough, Short}
 use Rattle.prefixes.proofs.Writing.{by-width, at-most-sixteen, length-entries}
 

@@ -11,18 +11,12 @@ use Rattle.address.specs.Words.{numberOf}
 use Rattle.address.specs.declared.Words.{Words}
 use Rattle.listing.specs.Writing.{Written}
 use Rattle.cidr.specs.First.{Capped}
+use Rattle.next_prefix.specs.Walked.{between, walked}
 use Rattle.cidr.specs.Prefixes.{Prefix, from-to, prefixesOf}
 use Rattle.prefixes.specs.Call.{bigEndian, entriesOf}
 use Rattle.prefixes.specs.declared.Stop.{Stop}
 use Rattle.prefixes.specs.declared.Fit.{Fit}
 use Rattle.prefixes.specs.declared.Fit.the-variants.{Enough, Short}
-
-abbrev pub between : Words → Words → Range
-between first last = from-to (numberOf first) (numberOf last)
-
--- Every range of addresses has the same prefixes at 128 bits as at its own width: the code counts and writes at 128.
-abbrev pub walked : Words → Words → List Prefix
-walked first last = prefixesOf 128 (between first last)
 
 -- two addresses of so many bytes, in order
 pub record Ordered (width : ℕ) (first last : Words) : Type 0 where

@@ -14,8 +14,9 @@ use Rattle.cidr.specs.First.{Largest}
 use Rattle.cidr.proofs.Greedy.{first-prefix}
 use Rattle.cidr.proofs.Step as step
 use Rattle.cidr.proofs.Theorem.{at-most-254}
-use Rattle.prefixes.specs.Entries.{between, walked, Entered}
-use Rattle.prefixes.proofs.Walk as walk
+use Rattle.next_prefix.specs.Walked.{between, walked}
+use Rattle.prefixes.specs.Entries.{Entered}
+use Rattle.next_prefix.proofs.Walk as walk
 use Rattle.prefixes.proofs.Writing.{nothing-entered, kept-length, entry-inside, few-entered, entered, entry-fits}
 use borrow.Author.Needs.{needs}
 use Rattle.prefixes.proofs.climb.Statement.{statement}

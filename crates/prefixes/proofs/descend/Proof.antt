@@ -13,8 +13,9 @@ use Rattle.cidr.specs.First.{Largest}
 use Rattle.cidr.proofs.Multiples.{sum, itself, of-remainder, to-remainder}
 use Rattle.cidr.proofs.Greedy.{first-prefix}
 use Rattle.cidr.proofs.Step as step
-use Rattle.prefixes.specs.Entries.{between, walked, fallen, Falling, Entered}
-use Rattle.prefixes.proofs.Walk as walk
+use Rattle.next_prefix.specs.Walked.{between, walked}
+use Rattle.prefixes.specs.Entries.{fallen, Falling, Entered}
+use Rattle.next_prefix.proofs.Walk as walk
 use Rattle.prefixes.proofs.Falling.{same-last, positive-after, below-after, few-after}
 use Rattle.prefixes.proofs.Writing.{at-most-sixteen, nothing-entered, kept-length, rest-inside, entry-inside, one-entered, all-entered, both-listed, entry-fits}
 use Rattle.prefixes.proofs.Room.{few}

@@ -4,7 +4,7 @@ use native.Mathlib.Omega.{arith}
 use lib.ListN.{length}
 use Rattle.listing.proofs.Writing.{rest-length}
 use Rattle.prefixes.specs.Call.{entriesOf}
-use Rattle.prefixes.specs.Entries.{walked}
+use Rattle.next_prefix.specs.Walked.{walked}
 use Rattle.prefixes.proofs.Writing.{at-most-sixteen, rest-inside, both-listed}
 use Rattle.prefixes.proofs.Room.{few}
 use borrow.Author.Needs.{needs}

@@ -1,9 +1,9 @@
 -- 63 less the leading zeros.
 use native.Mathlib.Omega.{arith}
-use Rattle.prefixes.proofs.Tops.{top}
+use Rattle.next_prefix.proofs.Tops.{top}
 use borrow.Author.Needs.{needs}
-use Rattle.prefixes.proofs.top_bit.Statement.{statement}
-use Rattle.prefixes.proofs.top_bit.Tie as tie
+use Rattle.next_prefix.proofs.top_bit.Statement.{statement}
+use Rattle.next_prefix.proofs.top_bit.Tie as tie
 
 sub-result : tie.Need-sub-result
 sub-result c = top (c .args .v) (c .pre) (search needs) .0

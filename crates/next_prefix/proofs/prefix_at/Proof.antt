@@ -6,11 +6,11 @@ use borrow.Author.Tests.{leb-true, leb-false}
 use Rattle.address.specs.Words.{numberOf}
 use Rattle.cidr.specs.First.{Largest}
 use Rattle.cidr.proofs.Step as step
-use Rattle.prefixes.specs.Entries.{between}
-use Rattle.prefixes.proofs.Walk as walk
+use Rattle.next_prefix.specs.Walked.{between}
+use Rattle.next_prefix.proofs.Walk as walk
 use borrow.Author.Needs.{needs}
-use Rattle.prefixes.proofs.prefix_at.Statement.{statement}
-use Rattle.prefixes.proofs.prefix_at.Tie as tie
+use Rattle.next_prefix.proofs.prefix_at.Statement.{statement}
+use Rattle.next_prefix.proofs.prefix_at.Tie as tie
 
 below : (c : tie.Start) → numberOf (c .args .last) < 2 ^ 128
 below c = walk.wide {h = c .args .last .high} {l = c .args .last .low} (search needs) (search needs)

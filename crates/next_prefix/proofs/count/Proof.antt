@@ -8,11 +8,11 @@ use lib.ListN.{length}
 use Rattle.address.specs.Words.{numberOf}
 use Rattle.cidr.specs.Prefixes.{prefix}
 use Rattle.cidr.proofs.Theorem.{at-most-254}
-use Rattle.prefixes.specs.Entries.{between, walked}
-use Rattle.prefixes.proofs.Walk as walk
+use Rattle.next_prefix.specs.Walked.{between, walked}
+use Rattle.next_prefix.proofs.Walk as walk
 use borrow.Author.Needs.{needs}
-use Rattle.prefixes.proofs.count.Statement.{statement}
-use Rattle.prefixes.proofs.count.Tie as tie
+use Rattle.next_prefix.proofs.count.Statement.{statement}
+use Rattle.next_prefix.proofs.count.Tie as tie
 
 abbrev Inv-loop : tie.InvT-loop
 Inv-loop last start₀ n₀ start n = (numberOf start ≤ numberOf last) × (n + length (walked start last) ≡ suc (length (walked start₀ last)))

@@ -5,7 +5,7 @@ use native.Mathlib.Omega.{arith}
 use native.Mathlib.Decide.{decLt}
 use lib.Pow.{pow-add, pow-mono, pow-pos}
 use Rattle.cidr.proofs.Multiples.{Multiple, sum, rest, itself, finer, near}
-use Rattle.prefixes.proofs.Digits.{high-most, high-less}
+use Rattle.next_prefix.proofs.Digits.{high-most, high-less}
 
 module _ (k h l : ℕ) (below : l < 2 ^ k) where
   high-part : Multiple (2 ^ k) (h * 2 ^ k)

@@ -2,10 +2,10 @@
 use Prim.Native.Nat.{_+_, _*_, _^_, _<_}
 use mathlib.Core.Path.{refl}
 use Rattle.cidr.proofs.Multiples.{Multiple, of-remainder}
-use Rattle.prefixes.proofs.Ends.{low-fits, low-end, high-fits, high-end, all-of}
+use Rattle.next_prefix.proofs.Ends.{low-fits, low-end, high-fits, high-end, all-of}
 use borrow.Author.Needs.{needs}
-use Rattle.prefixes.proofs.last_of.Statement.{statement}
-use Rattle.prefixes.proofs.last_of.Tie as tie
+use Rattle.next_prefix.proofs.last_of.Statement.{statement}
+use Rattle.next_prefix.proofs.last_of.Tie as tie
 
 module _ (c : tie.Start) where
   low-below : c .args .start .low < 18446744073709551616

@@ -2,10 +2,10 @@
 use Prim.Native.Nat.{_<_}
 use native.Mathlib.Omega.{arith}
 use Rattle.cidr.proofs.Step.{top-high}
-use Rattle.prefixes.proofs.Tops.{low-some, low-word, low-split, high-split}
+use Rattle.next_prefix.proofs.Tops.{low-some, low-word, low-split, high-split}
 use borrow.Author.Needs.{needs}
-use Rattle.prefixes.proofs.split_top.Statement.{statement}
-use Rattle.prefixes.proofs.split_top.Tie as tie
+use Rattle.next_prefix.proofs.split_top.Statement.{statement}
+use Rattle.next_prefix.proofs.split_top.Tie as tie
 
 low-below : (c : tie.Start) → c .args .n .low < 18446744073709551616
 low-below c = search needs

@@ -2,10 +2,10 @@
 use Prim.Native.Nat.{ℕ, _+_, _-_, _*_, _^_, _≤_, _<_}
 use native.Mathlib.Omega.{arith}
 use Rattle.cidr.proofs.Multiples.{Multiple, of-remainder}
-use Rattle.prefixes.proofs.Ends.{low-after, carried, carry-fits, high-after, after-fits, not-all}
+use Rattle.next_prefix.proofs.Ends.{low-after, carried, carry-fits, high-after, after-fits, not-all}
 use borrow.Author.Needs.{needs}
-use Rattle.prefixes.proofs.after.Statement.{statement}
-use Rattle.prefixes.proofs.after.Tie as tie
+use Rattle.next_prefix.proofs.after.Statement.{statement}
+use Rattle.next_prefix.proofs.after.Tie as tie
 
 full : {l : ℕ} (size : ℕ) → 18446744073709551615 - size < l → 18446744073709551616 ≤ l + size
 full size h = omega arith

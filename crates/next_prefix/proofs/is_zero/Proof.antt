@@ -4,8 +4,8 @@ use mathlib.Core.Path.{_≡_, sym, ap}
 use native.Mathlib.Omega.{arith}
 use borrow.Author.Tests.{ne-eqb}
 use lib.Dec.{eqb}
-use Rattle.prefixes.proofs.is_zero.Statement.{statement}
-use Rattle.prefixes.proofs.is_zero.Tie as tie
+use Rattle.next_prefix.proofs.is_zero.Statement.{statement}
+use Rattle.next_prefix.proofs.is_zero.Tie as tie
 
 some : (h l : ℕ) → (h ≡ 0 → ⊥) → h * 18446744073709551616 + l ≡ 0 → ⊥
 some h l n e = n (omega arith)

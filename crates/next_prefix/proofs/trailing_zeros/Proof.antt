@@ -5,8 +5,8 @@ use native.Mathlib.Omega.{arith}
 use lib.Count.{trailingZeros, trailing-le}
 use Rattle.cidr.proofs.Zeros.{zeros-low, zeros-high}
 use borrow.Author.Needs.{needs}
-use Rattle.prefixes.proofs.trailing_zeros.Statement.{statement}
-use Rattle.prefixes.proofs.trailing_zeros.Tie as tie
+use Rattle.next_prefix.proofs.trailing_zeros.Statement.{statement}
+use Rattle.next_prefix.proofs.trailing_zeros.Tie as tie
 
 add-result : tie.Need-add-result
 add-result c = omega (arith, trailing-le 64 (c .before .args .a .high))

@@ -1,9 +1,9 @@
 -- The highest bit of one more than what is left, by which words are full.
 use native.Mathlib.Omega.{arith}
-use Rattle.prefixes.proofs.Tops.{top-low, top-both, top-carried, top-all}
+use Rattle.next_prefix.proofs.Tops.{top-low, top-both, top-carried, top-all}
 use borrow.Author.Needs.{needs}
-use Rattle.prefixes.proofs.cap.Statement.{statement}
-use Rattle.prefixes.proofs.cap.Tie as tie
+use Rattle.next_prefix.proofs.cap.Statement.{statement}
+use Rattle.next_prefix.proofs.cap.Tie as tie
 
 add-top-bit : tie.Need-add-top-bit
 add-top-bit c = search needs

@@ -1,0 +1,4 @@
+pub mod Digits
+pub mod Tops
+pub mod Ends
+pub mod Walk
