@@ -176,6 +176,6 @@ pub extern "C" fn rdap_address_text(address: &[u8], text: &mut [u8], reply: &mut
 {
     let a = rdap::address_text(address, text);
     let reason = a.reason;
-    let count = a.count;
-    *reply = [reason, count];
+    let bytes = a.count;
+    *reply = [reason, bytes];
 }
