@@ -14,7 +14,7 @@ limit="timeout 110"
 [ $# -gt 0 ] || set -- --seconds 60
 log=$(mktemp)
 trap 'rm -f "$log"' EXIT
-cd tests/model
+cd tests/compare
 status=0
 {
     timeout 110 cargo test --release --offline --quiet || status=1

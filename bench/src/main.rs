@@ -1,4 +1,4 @@
-//! Nanoseconds a call of the library beside those of the model's fast Rust, in
+//! Nanoseconds a call of the library beside those of the fast Rust (bench/fast), in
 //! the same run and by turns; each figure is the least of many repetitions.
 //!
 //!     bench [--shape NAME] [--kind TEXT] [--repetitions N] [--seconds T]
@@ -29,8 +29,8 @@ mod texts;
 use folds::Input;
 use model::generate::{Draft, Rng};
 use model::{
-    fast, generate, subject, Part, Range, Record, Relation, AS, DOMAIN, ENTITY, IPV4, IPV6,
-    LONGEST_IMAGE, MOST_PATHS, MOST_PREFIXES, MOST_RECORDS, NAMESERVER,
+    generate, Part, Range, Record, Relation, AS, DOMAIN, ENTITY, IPV4, IPV6, LONGEST_IMAGE,
+    MOST_PATHS, MOST_PREFIXES, MOST_RECORDS, NAMESERVER,
 };
 use std::collections::BTreeSet;
 use std::hint::black_box;

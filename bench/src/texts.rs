@@ -2,7 +2,7 @@
 
 use super::{assert_same, Beside, Call, Cell, Options, Rows};
 use model::generate::{octets, Rng};
-use model::{fast, subject, IPV4, IPV6, LONGEST_TEXT};
+use model::{IPV4, IPV6, LONGEST_TEXT};
 use std::io::Write;
 use std::net::{Ipv4Addr, Ipv6Addr};
 

@@ -1,7 +1,7 @@
 //! What is compared with the model and measured: with the feature `ffi` the
-//! library behind the C interface, else the implementation in `fast`.
+//! library behind the C interface, else the implementation in bench/fast.
 
-use crate::Relation;
+use model::Relation;
 
 #[cfg(feature = "ffi")]
 mod calls {
@@ -204,9 +204,8 @@ mod calls {
 #[cfg(not(feature = "ffi"))]
 mod calls {
     use super::*;
-    use crate::fast;
 
-    pub const NAME: &str = "src/fast.rs";
+    pub const NAME: &str = "bench/fast";
 
     #[inline]
     pub fn answer(path: &[u8], image: &[u8], list: &mut [u32], reply: &mut [u32; 7]) {

@@ -1,7 +1,7 @@
 //! The two implementations give the same on generated inputs.
 
 use model::generate::{self, Aims, Rng};
-use model::{fast, Counted, Folded, Reply, LONGEST_TEXT, MOST_PREFIXES, RELATIONS};
+use model::{Counted, Folded, Reply, LONGEST_TEXT, MOST_PREFIXES, RELATIONS};
 
 const FILL: u32 = 0xA5A5_5A5A;
 const FILL_BYTE: u8 = 0xA5;

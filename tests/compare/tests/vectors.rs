@@ -1,9 +1,9 @@
 //! Runs the vectors on the model and on what is compared with it: the library
-//! with the feature `ffi`, else `src/fast.rs`. The folder is given by the
+//! with the feature `ffi`, else bench/fast. The folder is given by the
 //! variable VECTORS, else it is `../vectors` beside this package.
 
 use model::generate::{self, Aims, Draft, Rng};
-use model::{subject, Counted, Folded, Range, Relation, Reply, IPV4, IPV6, LONGEST_TEXT};
+use model::{Counted, Folded, Range, Relation, Reply, IPV4, IPV6, LONGEST_TEXT};
 use std::fs;
 use std::path::PathBuf;
 

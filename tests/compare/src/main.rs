@@ -10,10 +10,10 @@
 //! and each of their reasons among so many lists of prefixes or texts of addresses.
 //! Every image has a number; `--image I` runs the calls on that one only, and
 //! `--trace` writes each call to standard error before it is made.
-//! With the feature `ffi` the library is compared, else src/fast.rs.
+//! With the feature `ffi` the library is compared, else bench/fast.
 
 use model::generate::{self, Aims, Draft, Rng};
-use model::{subject, Checked, Counted, Folded, Relation, LONGEST_CHANGES, RELATIONS};
+use model::{Checked, Counted, Folded, Relation, LONGEST_CHANGES, RELATIONS};
 use std::process::ExitCode;
 use std::time::{Duration, Instant};
 
