@@ -1,5 +1,6 @@
 #!/usr/bin/env bash
-# Builds the examples in C and tests/calls.c against the archive, with warnings as errors, runs them and compares what they write.
+# Builds the examples in C and tests/calls.c against the archive, with warnings as errors, runs them and compares what they write;
+# holds the archive to tests/inlined.txt.
 # The archive is target/staticlib/librdap_c.a and is built if it is missing. The last line is 'N passed, M failed'.
 set -u
 cd "$(dirname "$0")/.."
@@ -67,6 +68,17 @@ renames ENT-3 'Cyd' "$campus" 1 'reason 11, defect 0, place 0, offset 0'
 told "nothing is written on a refusal" $?
 renames ENT-1 '' "$campus" 1 'reason 11, defect 0, place 0, offset 9'
 renames ENT-1 'Ada Lovelace' tests/vectors/defective.image 1 'reason 2, defect 3, place 37, offset 0'
+
+# what is a part of its caller, and what is not; a name that the sources no longer have is a fault of the list
+nm "$archive" | awk '{ print $NF }' >"$out/symbols"
+while read -r how name; do
+    case $how in part) wanted=1 ;; alone) wanted=0 ;; *) continue ;; esac
+    grep -qsE "^ *(pub )?fn ${name#*::}\b" crates/"${name%%::*}"/src/*.rt
+    told "tests/inlined.txt: there is no function $name" $?
+    grep -qxF -- "$name" "$out/symbols"
+    [ $? -eq $wanted ]
+    told "the archive does not have $name as '$how'" $?
+done <tests/inlined.txt
 
 "$out/calls" | diff - tests/calls.expected
 told "tests/calls.c" $?
