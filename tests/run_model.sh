@@ -1,5 +1,6 @@
 #!/usr/bin/env bash
-# The independent model: its own tests; the vectors on the archive; then every public function of the archive compared with the model.
+# The independent model: the rows that its program prints; its tests; the vectors on the archive; then every public function of the archive
+# compared with the model.
 # usage: tests/run_model.sh [OPTIONS OF compare], as in tests/run_model.sh --calls 2000000 --seconds 3600 --seed 2
 # The archive is target/staticlib/librdap_c.a and is built if it is missing. VECTORS names the folder of vectors, tests/vectors if unset.
 # Without options all is over within two minutes. The last line is 'N passed, M failed'.
@@ -14,9 +15,25 @@ limit="timeout 110"
 [ $# -gt 0 ] || set -- --seconds 60
 log=$(mktemp)
 trap 'rm -f "$log"' EXIT
-cd tests/compare
+# rows: the program that prints the model's answers, on every stored file of paths
+rows() {
+    local paths name good=0 bad=0
+    timeout 110 cargo build --release --offline --quiet --manifest-path tests/model/Cargo.toml || return 1
+    for paths in "$VECTORS"/*.paths "$VECTORS"/changes/*/*.paths; do
+        name=${paths%.paths}
+        if "$CARGO_TARGET_DIR/release/answer" "$name.image" <"$paths" | cmp -s - "$name.expected"; then
+            good=$((good + 1))
+        else
+            bad=$((bad + 1))
+            echo "FAILED: the model's answers to $paths"
+        fi
+    done
+    echo "files of paths: $good passed, $bad failed"
+}
 status=0
 {
+    rows || status=1
+    cd tests/compare || exit 1
     timeout 110 cargo test --release --offline --quiet || status=1
     timeout 110 cargo test --release --offline --quiet --features ffi --test vectors || status=1
     $limit cargo run --release --offline --quiet --features ffi --bin compare -- "$@" || status=1
