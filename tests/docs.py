@@ -1,5 +1,5 @@
 #!/usr/bin/env python3
-"""Holds the documents to what they name: rules, definitions, functions, must-fail edits, files and their lines.
+"""Holds the documents to what they name: rules, definitions, functions, tables, must-fail edits, files and their lines.
 
     python3 tests/docs.py        from anywhere; the last line is 'N passed, M failed'
 """
@@ -60,6 +60,18 @@ for name in ("PROMISES.md", "DECISIONS.md", "PROVING.md", "ARCHITECTURE.md"):
             check(start in edits or (edit[3] and any(e.startswith(start) for e in edits)), f"{name}: no edit {quoted}")
         elif re.fullmatch(r"[a-z]+[A-Z][A-Za-z]+|[a-z]+(-[a-z]+)+", quoted):
             check(re.search(rf"(?<![\w-]){re.escape(quoted)}(?![\w-])", logic), f"{name}: no definition or law {quoted}")
+
+# All that knows a rule: the tables, and the functions of the tests in Rust.
+folders = {"model": "tests/model/src", "fast": "bench/fast/src", "generator": "tests/model/src/generate"}
+rust = {column: "\n".join(text(p) for p in (ROOT / folder).rglob("*.rs")) for column, folder in folders.items()}
+heads, _, *rows = promises.split("## All that knows a rule")[1].split("\n| Rules ")[1].split("\n\n")[0].rstrip().split("\n")
+heads = [head.strip() for head in heads.split("|")]
+for row in rows:
+    for head, cell in zip(heads, row.split("|")[1:]):
+        for name in re.findall(r"[a-z_]+/specs/[A-Z]\w+", cell):
+            check((CRATES / f"{name}.antt").is_file(), f"PROMISES.md: no table {name}")
+        for name in re.findall(r"`(\w+)`", cell):
+            check(re.search(rf"\bfn {name}\b", rust.get(head, "")), f"PROMISES.md: no {name} in {folders.get(head)}")
 
 # The files that a reader must believe: their lines, and that they use no others.
 table = document("ARCHITECTURE.md").split("| What | Files (lines) |")[1].split("\n\n")[0]
