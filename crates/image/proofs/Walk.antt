@@ -2,31 +2,36 @@
 use mathlib.Core.Path.{_≡_, refl, sym, _∙_, ap}
 use mathlib.Core.Bool.{Bool, true, false, cond, false≢true}
 use mathlib.Core.List.{List, [], _∷_, reverse}
-use Prim.Native.Nat.{ℕ, zero, suc, _+_, _-_, _≤_, _<_}
+use Prim.Native.Nat.{ℕ, zero, suc, _+_, _-_, _*_, _≤_, _<_}
 use borrow.Author.Tests.{ne-eqb, leb-true, eqb-true}
 use lib.Dec.{leb, eqb}
 use native.Mathlib.Omega.{arith}
 use native.Mathlib.Nat.{le-refl}
 use lib.ListN.{length, take, drop, set, length-reverse, length-set}
-use lib.Seq.{slice, length-slice, take-length, slice-empty}
+use lib.Seq.{slice, length-slice, take-length, slice-empty, getD-set-same, getD-set-other}
+use Rattle.address.specs.Ranges.{Range}
 use Rattle.fields.specs.Field.{headOf}
 use Rattle.fields.specs.Place.{fieldAt, FieldInside, behind}
 use Rattle.fields.specs.Heads.{field-inside}
-use Rattle.records.specs.Record.{Record, firstOf}
-use Rattle.records.specs.Judge.{Judged, bad, good, inOrder, crossesAny}
+use Rattle.records.specs.Record.{Record, widthOf, firstOf}
+use Rattle.records.specs.Judge.{bad, good, inOrder, crossesAny}
 use Rattle.records.specs.Layout.{layoutOf, recordOn, LaidOut}
 use Rattle.records.specs.declared.Layout.{Layout}
 use Rattle.records.proofs.Accepted.{first-last, After, follows-after}
 use Rattle.image.specs.Image.{Image, sound, defective, refused, taken, afterJudged, nextOf, afterNext, imageFrom, startsRight}
-use Rattle.image.specs.Place.{TakenAt, ReadAt, recordBefore, Coming, goodBlock, nestOn, placeOn, verdictOf}
+use Rattle.image.specs.Place.{TakenAt, ReadAt, verdictOf}
+use Rattle.image.specs.Nest.{nestIn, stepIn, Opened, openLast, recordBefore, Coming, stepOn}
 use Rattle.image.specs.declared.Reading.{Reading}
 use Rattle.image.specs.declared.Reading.the-variants.{Taken, Refused}
-use Rattle.image.specs.declared.Place.{Place}
-use Rattle.image.specs.declared.Place.the-variants.{Under, Bad}
+use Rattle.image.specs.declared.Nesting.{Nesting}
+use Rattle.image.specs.declared.Nesting.the-variants.{Under, Crossing}
+use Rattle.image.specs.declared.Stepped.{Stepped}
+use Rattle.image.specs.declared.Stepped.the-variants.{Fits, Bad}
 use Rattle.image.specs.declared.Verdict.the-variants.{Sound, Defective}
 use Rattle.image.proofs.Readings.{read-head}
-use Rattle.image.proofs.Judged.{order-first, contents-on, judged-on}
-use Rattle.image.proofs.Stacks.{Open, open-none, Pushed, Stepped, stepped}
+use Rattle.records.proofs.Judging.{judged-read}
+use Rattle.records.proofs.Contents.{ranged, range-on}
+use Rattle.image.proofs.Opens.{Open, open-none, Goes, Nested, nests, pushed}
 
 -- After `count` records, the last of which lies as `p` says, or has the tag 0 if there is none: what is left of the image decides on the whole,
 -- and the stack holds the open blocks.
@@ -40,7 +45,8 @@ pub record Walked (s : List ℕ) (whole : Image) (p : Layout) (stack : List ℕ)
   pub placed : 0 < p .tag → LaidOut (length s) p
   pub size : length stack ≡ 4096
   pub shallow : depth ≤ count
-  pub opened : Open s earlier (p .tag) (firstOf (recordOn s p)) stack depth
+  pub opened : Open earlier (p .tag) (firstOf (recordOn s p)) (openLast s (widthOf (p .tag)) stack) depth
+  pub lying : p .tag ≤ 18 → Opened s (widthOf (p .tag)) stack depth
   pub rest : imageFrom (4096 - count) earlier (slice (p .end) (length s) s) ≡ whole
 
 -- the next record, which lies as `q` says, can be read
@@ -67,6 +73,12 @@ module _ (earlier : List Record) where
   from-next n [] h = absurd (omega arith)
   from-next n (b ∷ l) h = refl
 
+-- the record before decides on the order
+order-first : (earlier : List Record) (r : Record) → inOrder (take 1 earlier) r ≡ inOrder earlier r
+unfolding inOrder
+order-first [] r = refl
+order-first (e ∷ earlier) r = refl
+
 pub walk-start : (s : List ℕ) (from : ℕ) → from ≤ length s → length s ≤ 262144 → (stack : List ℕ) → length stack ≡ 4096
     → Walked s (imageFrom 4096 [] (drop from s)) (layoutOf 0 from from from) stack 0 0
 walk-start s from l h stack z = record {
@@ -79,7 +91,8 @@ walk-start s from l h stack z = record {
   placed = λ y. absurd (omega (arith, y));
   size = z;
   shallow = omega arith;
-  opened = open-none s _ stack;
+  opened = open-none _ _;
+  lying = λ y d k. absurd (omega (arith, k));
   rest = rw (take-length s);
 }
 
@@ -127,11 +140,11 @@ module _ {s : List ℕ} {whole : Image} {p : Layout} {stack : List ℕ} {depth c
   pub behind-here : q .end ≡ behind (fieldAt s (p .end) (length s)) (p .end)
   behind-here = rw (c .here .stands)
 
-  pub coming : Coming s p q stack depth
+  pub coming : Coming s p s q s stack depth
   coming = record {
     laid = c .here .readable .placed;
     earlier = c .walked .placed;
-    open-blocks = λ b z. (omega (arith, c .walked .shallow, c .walked .few), (rw z at (c .walked .opened .opened (omega arith))));
+    open-blocks = λ b z. (omega (arith, c .walked .shallow, c .walked .few, c .walked .size), (rw z at (c .walked .lying (omega arith))));
   }
 
   after : inOrder (recordBefore s p) (recordOn s q) ≡ true → After (p .tag) (firstOf (recordOn s p)) (recordOn s q)
@@ -145,55 +158,49 @@ module _ {s : List ℕ} {whole : Image} {p : Layout} {stack : List ℕ} {depth c
           record { tags = omega arith; firsts = λ u v. absurd (omega (arith, u, z, coming .laid .known)) }
       by-before false x y = follows-after (recordOn s p) (recordOn s q) y
 
-  next-is : (t u v : Bool) → goodBlock (recordOn s q) ≡ t → inOrder (recordBefore s p) (recordOn s q) ≡ u → crossesAny earlier (recordOn s q) ≡ v
-      → nextOf earlier (headOf (slice (p .end) (length s) s))
-      ≡ afterJudged (cond t (cond u (cond v (bad 7) (good (recordOn s q))) (bad 6)) (bad 5)) (slice (q .end) (length s) s)
-  next-is t u v x y z =
+  next-is : (u v : Bool) → inOrder (recordBefore s p) (recordOn s q) ≡ u → crossesAny earlier (recordOn s q) ≡ v
+      → nextOf earlier (headOf (slice (p .end) (length s) s)) ≡ afterJudged (cond u (cond v (bad 7) (good (recordOn s q))) (bad 6)) (slice (q .end) (length s) s)
+  next-is u v y z =
+      let m = c .here .readable in
       let o : inOrder earlier (recordOn s q) ≡ u = sym (order-first earlier (recordOn s q)) ∙ sym (ap (λ (l : List Record). inOrder l (recordOn s q)) (c .walked .prior)) ∙ y in
-      rw (read-head s (p .end) (c .walked .inside) _ refl (q .tag) (q .start) (q .end) (c .here .stands))
-      (ap (λ (j : Judged). afterJudged j (slice (q .end) (length s) s)) (judged-on s q (c .here .readable) earlier t u v x o z))
+      rw (
+        read-head s (p .end) (c .walked .inside) _ refl (q .tag) (q .start) (q .end) (c .here .stands),
+        judged-read (q .tag) (slice (q .start) (q .end) s) (recordOn s q) (m .known) (m .parsed) (m .good) earlier,
+        o,
+        z,
+      )
 
-  -- what its place says of a record
-  abbrev Outcome : Place → Type 0
+  -- what the step says of a record
+  abbrev Outcome : Stepped → Type 0
   Outcome (Bad d) = nextOf earlier (headOf (slice (p .end) (length s) s)) ≡ refused d
-  Outcome (Under u) =
+  Outcome (Fits u) =
       (nextOf earlier (headOf (slice (p .end) (length s) s)) ≡ taken (recordOn s q) (slice (q .end) (length s) s))
-      × (u ≤ depth) × Pushed s earlier q (set stack u (q .start + 3)) (u + 1)
+      × Goes earlier (p .tag) (openLast s (widthOf (p .tag)) stack) depth (recordOn s q) u
 
-  module _ (x : goodBlock (recordOn s q) ≡ true) (y : inOrder (recordBefore s p) (recordOn s q) ≡ true) where
-    by-place : (n : Place) → Stepped s earlier (p .tag) (firstOf (recordOn s p)) stack depth (c .walked .opened) q (coming .laid) (after y) n → Outcome n
-    by-place (Under u) g =
-        let z = g .1 (omega (arith, g .0, c .walked .shallow, c .walked .few, c .walked .size, c .few)) in
-        (next-is true true false x y (z .clear), g .0, z)
-    by-place (Bad d) g = rw (g .0) (next-is true true true x y (g .1))
-
-    no-defect : Outcome (nestOn s p q stack depth)
-    no-defect =
-        by-place (nestOn s p q stack depth) (stepped s earlier (p .tag) (firstOf (recordOn s p)) stack depth (c .walked .opened) q (coming .laid) (after y)
-        (first-last (recordOn s q) (contents-on s q (c .here .readable) ∙ x)))
-
-  outcome : Outcome (placeOn s p q stack depth)
-  unfolding placeOn
-  outcome = by-tests (goodBlock (recordOn s q)) (inOrder (recordBefore s p) (recordOn s q)) refl refl
+  outcome : Outcome (stepOn s p s q s stack depth)
+  outcome = by-order (inOrder (recordBefore s p) (recordOn s q)) refl
     where
-      by-tests : (t u : Bool) → goodBlock (recordOn s q) ≡ t → inOrder (recordBefore s p) (recordOn s q) ≡ u
-          → Outcome (cond t (cond u (nestOn s p q stack depth) (Bad 6)) (Bad 5))
-      by-tests true true x y = no-defect x y
-      by-tests true false x y = next-is true false _ x y refl
-      by-tests false u x y = next-is false u _ x y refl
+      by-nest : (n : Nesting) → inOrder (recordBefore s p) (recordOn s q) ≡ true → Nested earlier (p .tag) (openLast s (widthOf (p .tag)) stack) depth (recordOn s q) n
+          → Outcome (stepIn true n)
+      by-nest (Under u) y g = (next-is true false y (g .clear), g)
+      by-nest Crossing y g = next-is true true y g
 
-  module _ (n : Place) (g : n ≡ placeOn s p q stack depth) where
+      by-order : (u : Bool) → inOrder (recordBefore s p) (recordOn s q) ≡ u → Outcome (stepIn u (nestIn (openLast s (widthOf (p .tag)) stack) (p .tag) (recordOn s q) depth))
+      by-order true y = by-nest (nestIn (openLast s (widthOf (p .tag)) stack) (p .tag) (recordOn s q) depth) y (nests (c .walked .opened) (recordOn s q) (coming .laid .known) (after y) (first-last (recordOn s q) (c .here .readable .good)))
+      by-order false y = next-is false (crossesAny earlier (recordOn s q)) y refl
+
+  module _ (n : Stepped) (g : n ≡ stepOn s p s q s stack depth) where
     pub walk-bad : (d : ℕ) → n ≡ Bad d → Defective d count ≡ verdictOf whole
     walk-bad d f =
         let o : Outcome (Bad d) = rw (← g, f) at outcome in
         refused-here s whole p stack depth count (c .walked) (c .more) (c .few) d o
 
-    module _ (u : ℕ) (f : n ≡ Under u) where
-      under : Outcome (Under u)
-      under = rw (← g, f) at outcome
+    module _ (u : ℕ) (f : n ≡ Fits u) where
+      fits : Outcome (Fits u)
+      fits = rw (← g, f) at outcome
 
       pub room : u < 4096
-      room = omega (arith, under .1, c .walked .shallow, c .walked .few, c .few)
+      room = omega (arith, fits .1 .few, c .walked .shallow, c .walked .few, c .few)
 
       pub walk-good : Walked s whole q (set stack u (q .start + 3)) (u + 1) (count + 1)
       walk-good = record {
@@ -205,10 +212,17 @@ module _ {s : List ℕ} {whole : Image} {p : Layout} {stack : List ℕ} {depth c
         prior = rw (ne-eqb (q .tag) 0 (λ z. omega (arith, coming .laid .known, z)));
         placed = λ z. coming .laid;
         size = length-set stack u (q .start + 3) ∙ c .walked .size;
-        shallow = omega (arith, under .1, c .walked .shallow);
-        opened = under .2 .now-open;
-        rest = (rw (under .0) at (one-step s whole p stack depth count (c .walked) (c .more) (c .few)));
+        shallow = omega (arith, fits .1 .few, c .walked .shallow);
+        opened = fits .1 .onward _
+            (λ d h. rw (getD-set-other stack u d (q .start + 3) 0 (λ z. omega (arith, z, h)), fits .1 .family (omega (arith, h))))
+            (λ h. rw (getD-set-same stack u (q .start + 3) 0 in-stack) (sym (ap (λ (x : Range). x .last) (range-on s q (coming .laid) h))));
+        lying = λ h. pushed (λ (v : ℕ). v + 2 * widthOf (q .tag) ≤ length s) stack u (q .start + 3) in-stack (ranged s q (coming .laid) h)
+            (λ d k. let e = fits .1 .family (omega (arith, k)) in coming .open-blocks h e .1 d (omega (arith, k, fits .1 .few)));
+        rest = (rw (fits .0) at (one-step s whole p stack depth count (c .walked) (c .more) (c .few)));
       }
+        where
+          in-stack : u < length stack
+          in-stack = omega (arith, room, c .walked .size)
 
 pub start-length : (s : List ℕ) → startsRight s ≡ true → 4 ≤ length s
 unfolding startsRight

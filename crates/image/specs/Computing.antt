@@ -3,8 +3,7 @@ use Rattle.records.specs.Computing as Records
 use Rattle.image.specs.Image.{imageFrom, startsRight, imageOf}
 use Rattle.image.specs.Entries.{placeOf, contentsSpan, spanOf}
 use Rattle.image.specs.Index.{tagOf}
-use Rattle.image.specs.Place.{placeOn}
 
 unfoldable pub computing : Unit {0}
-unfolding Records.computing imageFrom startsRight imageOf placeOf contentsSpan spanOf tagOf placeOn
+unfolding Records.computing imageFrom startsRight imageOf placeOf contentsSpan spanOf tagOf
 computing = tt

@@ -1,7 +1,7 @@
 pub mod Image
 pub mod Part
 pub mod Place
-pub mod Open
+pub mod Nest
 pub mod Entries
 pub mod Example
 pub mod Computing

@@ -4,21 +4,18 @@ ghost use mathlib.Core.Bool.{true};
 ghost use mathlib.Core.List.{_++_};
 ghost use Prim.Native.Nat.{_+_, _≤_};
 ghost use lib.ListN.{length, take};
+ghost use Rattle.records.specs.Record.{rangeOf};
 ghost use Rattle.image.specs.Image.{startsRight, imageOf};
+ghost use Rattle.image.specs.Nest.{nestOf, nestIn};
 ghost use Rattle.image.specs.Place.{verdictOf};
 ghost use Rattle.rows.specs.Entry.{rowOf};
 ghost use Rattle.merged.specs.Held.{parsedFrom, entriesAt, Recorded, Held};
-ghost use Rattle.overlaps.specs.Overlaps.{OpenBlocks, NestedIn, PlacedIn, Overlaps};
+ghost use Rattle.overlaps.specs.Overlaps.{OpenBlocks, openLast, Overlaps};
 use address::numbers_at_most;
+use image::Nesting;
 use image::Verdict;
 use merged::record_at;
 use records::width_of;
-
-// Where a block goes: under so many open blocks, or it overlaps one of them without lying inside it.
-enum Nesting {
-    Under(usize),
-    Crossing,
-}
 
 // The block r among the open blocks of its tag, the innermost last.
 fn nest<'a>(
@@ -29,7 +26,7 @@ fn nest<'a>(
     depth: usize,
 ) -> Nesting
     requires { ⌜ (depth ≤ 4096) × Recorded (now r) × (parsedFrom (now r) .tag ≤ 18) × OpenBlocks (now image) (now changes) (now stack) depth (parsedFrom (now r) .tag) ⌝ }
-    ensures { λ x. ⌜ NestedIn (now (image .entry)) (now (changes .entry)) (parsedFrom (now (r .entry))) (now (stack .entry)) depth x ⌝ }
+    ensures { λ x. ⌜ x ≡ nestOf (openLast (now (image .entry)) (now (changes .entry)) (now (stack .entry))) (rangeOf (parsedFrom (now (r .entry)))) depth ⌝ }
 {
     let width = width_of(r[0]);
     let mut d = depth;
@@ -47,7 +44,7 @@ fn nest<'a>(
 }
 
 // The record r after one of the tag `before`: only a block after a block of its tag is nested.
-fn place_of<'a>(
+fn nest_after<'a>(
     image: &'a [u8],
     changes: &'a [u8],
     r: &[u8],
@@ -57,7 +54,7 @@ fn place_of<'a>(
 ) -> Nesting
     requires { ⌜ (depth ≤ 4096) × Recorded (now r)
         × (before ≡ parsedFrom (now r) .tag → before ≤ 18 → OpenBlocks (now image) (now changes) (now stack) depth before) ⌝ }
-    ensures { λ x. ⌜ PlacedIn (now (image .entry)) (now (changes .entry)) (parsedFrom (now (r .entry))) (now (stack .entry)) before depth x ⌝ }
+    ensures { λ x. ⌜ x ≡ nestIn (openLast (now (image .entry)) (now (changes .entry)) (now (stack .entry))) before (parsedFrom (now (r .entry))) depth ⌝ }
 {
     if 0x12 < r[0] {
         return Nesting::Under(0);
@@ -86,7 +83,7 @@ fn first_overlap<'a>(
     while i < n {
         let place = index[i];
         let r = record_at(image, changes, place);
-        match place_of(image, changes, r, &stack, family, depth) {
+        match nest_after(image, changes, r, &stack, family, depth) {
             Nesting::Under(d) => {
                 stack[d] = place;
                 depth = d + 1;

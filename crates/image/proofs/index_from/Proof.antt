@@ -41,8 +41,11 @@ enum-known-r c = search needs
 reached : (c : tie.After-known-told Inv-loop μ-loop) → Reached (now (c .before .before .before .before .before .before .before .before .before .before .args .image)) (imageFrom 4096 [] (drop (c .before .before .before .before .before .before .before .before .before .before .args .from) (now (c .before .before .before .before .before .before .before .before .before .before .args .image)))) (c .before .before .before .before .before .before .before .loop .p) (c .before .before .before .before .before .before .before .loop .stack) (c .before .before .before .before .before .before .before .loop .depth) (c .before .before .before .before .before .before .before .loop .count) (c .before .r .given .0 .0)
 reached c = walk-taken _ _ _ _ _ _ (c .before .before .before .before .before .before .before .loop .inv .0) (c .before .before .before .before .before .if1 .taken) (c .before .before .before .before .if2 .left) _ (c .before .before .before .record-at .ensures) _ (c .before .r .given .1)
 
-find-place-requires : tie.Need-find-place-requires Inv-loop μ-loop
-find-place-requires c κs = coming (reached (c .before))
+slice-aggregate-step : tie.Need-slice-aggregate-step Inv-loop μ-loop
+slice-aggregate-step c = search needs
+
+step-requires : tie.Need-step-requires Inv-loop μ-loop
+step-requires c κs = coming (reached (c .before))
 
 enum-known-d : tie.Need-enum-known-d Inv-loop μ-loop
 enum-known-d c = search needs
@@ -64,7 +67,7 @@ starts : (c : tie.After-known-told Inv-loop μ-loop) → c .before .r .given .0 
 starts c = let i = field-here (reached c) in omega (arith, i .forward, i .within, c .before .before .before .before .before .before .before .loop .inv .0 .short-enough)
 
 fits : (c : tie.After-known-told2 Inv-loop μ-loop) → c .before .d .given .0 .0 < 4096
-fits c = room (reached (c .before .before .before .before .before)) _ (c .before .before .before .find-place .ensures) _ (c .before .d .given .1)
+fits c = room (reached (c .before .before .before .before .before)) _ (c .before .before .before .step .ensures) _ (c .before .d .given .1)
 
 add-stack : tie.Need-add-stack Inv-loop μ-loop
 add-stack c = omega (arith, starts (c .before .before .before .before .before .before .before))
@@ -91,7 +94,7 @@ loop-less c =
 
 loop-again : tie.Need-loop-again Inv-loop μ-loop
 loop-again c = (
-  walk-good (reached (c .before .before .before .before .before .before .before)) _ (c .before .before .before .before .before .find-place .ensures) _ (c .before .before .before .d .given .1),
+  walk-good (reached (c .before .before .before .before .before .before .before)) _ (c .before .before .before .before .before .step .ensures) _ (c .before .before .before .d .given .1),
   note-next _ _ _ _ _ _ (c .before .before .before .before .before .before .before .before .before .before .before .before .before .before .loop .inv .1) (omega (arith, c .before .before .before .before .before .before .before .before .before .before .before .before .before .before .loop .inv .0 .few, c .before .before .before .before .before .before .before .before .before .before .before .if2 .left)) (behind-here (reached (c .before .before .before .before .before .before .before))),
 )
 
@@ -99,7 +102,7 @@ enum-known-defect : tie.Need-enum-known-defect Inv-loop μ-loop
 enum-known-defect c = search needs
 
 returns-2 : tie.Need-returns-2 Inv-loop μ-loop
-returns-2 c = note-defective _ _ _ _ _ _ _ (c .before .before .before .before .before .before .before .before .before .before .before .before .loop .inv .1) (walk-bad (reached (c .before .before .before .before .before)) _ (c .before .before .before .find-place .ensures) _ (c .before .defect .given .1))
+returns-2 c = note-defective _ _ _ _ _ _ _ (c .before .before .before .before .before .before .before .before .before .before .before .before .loop .inv .1) (walk-bad (reached (c .before .before .before .before .before)) _ (c .before .before .before .step .ensures) _ (c .before .defect .given .1))
 
 enum-known-defect-2 : tie.Need-enum-known-defect-2 Inv-loop μ-loop
 enum-known-defect-2 c = search needs
@@ -122,7 +125,8 @@ index-from-spec =
     returns
     record-at-requires
     enum-known-r
-    find-place-requires
+    slice-aggregate-step
+    step-requires
     enum-known-d
     cast-places
     cast-places-2

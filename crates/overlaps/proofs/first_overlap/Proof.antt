@@ -1,13 +1,14 @@
 -- The records before i do not overlap, and the open blocks stand for them (Scans.antt).
 use borrow.Author.Needs.{needs}
-use mathlib.Core.Path.{refl, sym, _∙_, ap, subst}
+use mathlib.Core.Path.{_≡_, refl, sym, _∙_, ap, subst}
 use mathlib.Core.List.{List}
 use Prim.Native.Nat.{ℕ, _-_, _≤_, _<_}
 use native.Mathlib.Omega.{arith}
 use lib.ListN.{length, getD, take}
 use denote.Ref.{now}
+use Rattle.image.specs.Nest.{nestIn}
 use Rattle.merged.specs.Held.{bytesAt, parsedFrom, entriesAt, Recorded}
-use Rattle.overlaps.specs.Overlaps.{PlacedIn}
+use Rattle.overlaps.specs.Overlaps.{openLast}
 use Rattle.merged.proofs.Known.{known}
 use Rattle.overlaps.proofs.Scans.{Scanned, scan-start, scan-on, scan-crossing, scan-depth, scan-room, open-blocks, whole, overlap-here, overlap-none}
 use Rattle.overlaps.proofs.first_overlap.Statement.{statement}
@@ -33,8 +34,8 @@ element-copy-out-place c =
 record-at-requires : tie.Need-record-at-requires Inv-loop μ-loop
 record-at-requires c κs = search needs
 
-place-of-requires : tie.Need-place-of-requires Inv-loop μ-loop
-place-of-requires c κs =
+nest-after-requires : tie.Need-nest-after-requires Inv-loop μ-loop
+nest-after-requires c κs =
     let i = c .before .before .before in
     let a = i .before .before .before .before in
     let e = c .before .record-at .ensures in (
@@ -46,20 +47,16 @@ place-of-requires c κs =
 enum-known-d : tie.Need-enum-known-d Inv-loop μ-loop
 enum-known-d c = search needs
 
-placed : (p : tie.After-place-of Inv-loop μ-loop) → PlacedIn (now (p .before .before .before .before .before .before .before .before .args .image)) (now (p .before .before .before .before .before .before .before .before .args .changes))
+nested : (p : tie.After-nest-after Inv-loop μ-loop) → p .nest-after .result ≡ nestIn (openLast (now (p .before .before .before .before .before .before .before .before .args .image)) (now (p .before .before .before .before .before .before .before .before .args .changes)) (p .before .before .before .before .before .loop .stack)) (p .before .before .before .before .before .loop .family)
     (parsedFrom (bytesAt (now (p .before .before .before .before .before .before .before .before .args .image)) (now (p .before .before .before .before .before .before .before .before .args .changes)) (getD (now (p .before .before .before .before .before .before .before .before .args .index)) (p .before .before .before .before .before .loop .i) 0)))
-    (p .before .before .before .before .before .loop .stack) (p .before .before .before .before .before .loop .family) (p .before .before .before .before .before .loop .depth) (p .place-of .result)
-placed p =
-    let i = p .before .before .before .before in
-    let a = i .before .before .before .before in
-    let l = i .before .loop in
-    subst (λ (s : List ℕ). PlacedIn (now (a .args .image)) (now (a .args .changes)) (parsedFrom s) (l .stack) (l .family) (l .depth) (p .place-of .result)) (p .before .before .record-at .ensures) (p .place-of .ensures)
+    (p .before .before .before .before .before .loop .depth)
+nested p = rw (← p .before .before .record-at .ensures) (p .nest-after .ensures)
 
 deep : (d : tie.After-d Inv-loop μ-loop) → d .d .given .0 .0 < 4096
 deep d =
     let i = d .before .before .before .before .before .before in
     let a = i .before .before .before .before in
-    scan-depth _ _ _ (a .args .count) (omega (arith, a .pre .0, a .pre .4)) (a .pre .2) _ _ _ _ (i .before .loop .inv .1) (omega (arith, i .loop-test .taken, a .pre .3)) (omega (arith, i .loop-test .taken, a .pre .1)) _ (placed (d .before .before)) _ (d .d .given .1)
+    scan-depth _ _ _ (a .args .count) (omega (arith, a .pre .0, a .pre .4)) (a .pre .2) _ _ _ _ (i .before .loop .inv .1) (omega (arith, i .loop-test .taken, a .pre .3)) (omega (arith, i .loop-test .taken, a .pre .1)) _ (nested (d .before .before)) _ (d .d .given .1)
 
 mul-stack : tie.Need-mul-stack Inv-loop μ-loop
 mul-stack c = omega (arith, deep (c .before))
@@ -92,7 +89,7 @@ loop-again c =
     let e = d .before .before .before .before .record-at .ensures in
     let w = known _ (whole _ _ _ (a .args .count) (omega (arith, a .pre .0, a .pre .4)) (a .pre .2) _ _ _ _ (i .before .loop .inv .1) (omega (arith, i .loop-test .taken, a .pre .3))) in (
       omega (arith, i .loop-test .taken),
-      scan-on _ _ _ (a .args .count) (omega (arith, a .pre .0, a .pre .4)) (a .pre .2) _ _ _ _ (i .before .loop .inv .1) (omega (arith, i .loop-test .taken, a .pre .3)) (omega (arith, i .loop-test .taken, a .pre .1)) _ (placed (d .before .before)) _ (d .d .given .1) _ (ap (λ (s : List ℕ). getD s 0 0) e ∙ w .tag-is),
+      scan-on _ _ _ (a .args .count) (omega (arith, a .pre .0, a .pre .4)) (a .pre .2) _ _ _ _ (i .before .loop .inv .1) (omega (arith, i .loop-test .taken, a .pre .3)) (omega (arith, i .loop-test .taken, a .pre .1)) _ (nested (d .before .before)) _ (d .d .given .1) _ (ap (λ (s : List ℕ). getD s 0 0) e ∙ w .tag-is),
     )
 
 enum-told : tie.Need-enum-told Inv-loop μ-loop
@@ -103,7 +100,7 @@ returns c =
     let p = c .before .before in
     let i = p .before .before .before .before in
     let a = i .before .before .before .before in
-    overlap-here _ _ _ (i .loop-test .taken) (scan-crossing _ _ _ (a .args .count) (omega (arith, a .pre .0, a .pre .4)) (a .pre .2) _ _ _ _ (i .before .loop .inv .1) (omega (arith, i .loop-test .taken, a .pre .3)) (omega (arith, i .loop-test .taken, a .pre .1)) _ (placed p) (c .enum-told .given .1))
+    overlap-here _ _ _ (i .loop-test .taken) (scan-crossing _ _ _ (a .args .count) (omega (arith, a .pre .0, a .pre .4)) (a .pre .2) _ _ _ _ (i .before .loop .inv .1) (omega (arith, i .loop-test .taken, a .pre .3)) (omega (arith, i .loop-test .taken, a .pre .1)) _ (nested p) (c .enum-told .given .1))
 
 returns-2 : tie.Need-returns-2 Inv-loop μ-loop
 returns-2 c =
@@ -120,7 +117,7 @@ first-overlap-spec =
     mul-place
     element-copy-out-place
     record-at-requires
-    place-of-requires
+    nest-after-requires
     enum-known-d
     mul-stack
     array-write-stack

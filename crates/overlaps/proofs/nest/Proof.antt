@@ -9,18 +9,19 @@ use lib.ListN.{length, getD}
 use denote.Ref.{now}
 use lib.Dec.{leb}
 use Rattle.address.specs.Positions.{Wide, numberIn}
-use Rattle.records.specs.Record.{widthOf, firstOf, lastOf}
+use Rattle.records.specs.Record.{widthOf, rangeOf, firstOf, lastOf}
 use Rattle.image.proofs.Addresses.{wide-family}
-use Rattle.image.specs.Open.{openAt}
+use Rattle.image.specs.Nest.{nestOf}
+use Rattle.image.proofs.Opens.{nest-none, nest-on, nest-under, nest-out}
 use Rattle.merged.specs.Held.{bytesAt, parsedFrom, Recorded}
-use Rattle.overlaps.specs.Overlaps.{openIn}
+use Rattle.overlaps.specs.Overlaps.{openLast}
 use Rattle.merged.proofs.Known.{known}
-use Rattle.overlaps.proofs.Nests.{first-read, last-read, room-read, nest-none, nest-on, nest-under, nest-out}
+use Rattle.overlaps.proofs.Nests.{first-read, last-read, room-read}
 use Rattle.overlaps.proofs.nest.Statement.{statement}
 use Rattle.overlaps.proofs.nest.Tie as tie
 
 abbrev Inv-loop : tie.InvT-loop
-Inv-loop image changes r stack depth width d₀ d = (d ≤ depth) × (width ≡ widthOf (parsedFrom r .tag)) × (openAt (firstOf (parsedFrom r)) (openIn image changes stack d) ≡ openAt (firstOf (parsedFrom r)) (openIn image changes stack depth))
+Inv-loop image changes r stack depth width d₀ d = (d ≤ depth) × (width ≡ widthOf (parsedFrom r .tag)) × (nestOf (openLast image changes stack) (rangeOf (parsedFrom r)) d ≡ nestOf (openLast image changes stack) (rangeOf (parsedFrom r)) depth)
 
 abbrev μ-loop : tie.MeasureT-loop
 μ-loop image changes r stack depth width d₀ d = d
@@ -104,7 +105,7 @@ returns c =
     let i = x .before .before in
     let a = i .before .before .before .before .before .before .before in
     let o = opened x in
-    nest-under (now (a .args .image)) (now (a .args .changes)) (now (a .args .stack)) (parsedFrom (now (a .args .r))) (a .args .depth) (i .before .loop .d) (i .before .loop .inv .0) (i .before .loop .inv .2) (i .loop-test .taken)
+    nest-under (openLast (now (a .args .image)) (now (a .args .changes)) (now (a .args .stack))) (rangeOf (parsedFrom (now (a .args .r)))) (a .args .depth) (i .before .loop .d) (i .before .loop .inv .2) (i .loop-test .taken)
     (o .first-test _ (c .before .before .before .numbers-at-most .ensures) ∙ c .before .before .if1 .taken) (o .last-test _ (c .before .numbers-at-most2 .ensures) ∙ c .if2 .taken)
 
 returns-2 : tie.Need-returns-2 Inv-loop μ-loop
@@ -113,7 +114,7 @@ returns-2 c =
     let i = x .before .before in
     let a = i .before .before .before .before .before .before .before in
     let o = opened x in
-    nest-out (now (a .args .image)) (now (a .args .changes)) (now (a .args .stack)) (parsedFrom (now (a .args .r))) (a .args .depth) (i .before .loop .d) (i .before .loop .inv .0) (i .before .loop .inv .2) (i .loop-test .taken)
+    nest-out (openLast (now (a .args .image)) (now (a .args .changes)) (now (a .args .stack))) (rangeOf (parsedFrom (now (a .args .r)))) (a .args .depth) (i .before .loop .d) (i .before .loop .inv .2) (i .loop-test .taken)
     (o .first-test _ (c .before .before .before .numbers-at-most .ensures) ∙ c .before .before .if1 .taken) (o .last-test _ (c .before .numbers-at-most2 .ensures) ∙ c .if2 .left)
 
 sub-d : tie.Need-sub-d Inv-loop μ-loop
@@ -130,14 +131,14 @@ loop-again c =
     let o = opened x in (
       omega (arith, i .before .loop .inv .0),
       i .before .loop .inv .1,
-      nest-on (now (a .args .image)) (now (a .args .changes)) (now (a .args .stack)) (parsedFrom (now (a .args .r))) (a .args .depth) (i .before .loop .d) (i .before .loop .inv .0) (i .before .loop .inv .2) (i .loop-test .taken)
+      nest-on (openLast (now (a .args .image)) (now (a .args .changes)) (now (a .args .stack))) (rangeOf (parsedFrom (now (a .args .r)))) (a .args .depth) (i .before .loop .d) (i .before .loop .inv .2) (i .loop-test .taken)
           (o .first-test _ (c .before .numbers-at-most .ensures) ∙ c .if1 .left),
     )
 
 returns-3 : tie.Need-returns-3 Inv-loop μ-loop
 returns-3 c =
     let a = c .before .before .before .before .before .before .before in
-    nest-none (now (a .args .image)) (now (a .args .changes)) (now (a .args .stack)) (parsedFrom (now (a .args .r))) (a .args .depth) (c .before .loop .d) (c .before .loop .inv .0) (c .before .loop .inv .2) (c .loop-test .left)
+    nest-none (openLast (now (a .args .image)) (now (a .args .changes)) (now (a .args .stack))) (rangeOf (parsedFrom (now (a .args .r)))) (a .args .depth) (c .before .loop .d) (c .before .loop .inv .2) (c .loop-test .left)
 
 pub nest-spec : {M : Type 1} → statement M
 nest-spec =
