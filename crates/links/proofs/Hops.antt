@@ -15,8 +15,8 @@ use Rattle.blocks.specs.Blocks.{Block}
 use Rattle.address.proofs.Geometry.{Strictly}
 use Rattle.blocks.proofs.Laminar.{Laminar, accepted-laminar}
 use Rattle.scans.specs.Standing.{blocksIn}
-use Rattle.bottom.specs.Links.{nth, Link, Linked, Gathered}
-use Rattle.bottom.proofs.Indices.{first-rises, begins-inside}
+use Rattle.links.specs.Links.{nth, Link, Linked, Gathered}
+use Rattle.links.proofs.Indices.{first-rises, begins-inside}
 
 -- all blocks after block i and before j lie inside it
 pub record Hopping (bs : List Block) (i j : ℕ) : Type 0 where

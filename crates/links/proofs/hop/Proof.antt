@@ -1,4 +1,4 @@
--- `bottom::hop` meets its contract: all blocks that were hopped over lie inside block i.
+-- `links::hop` meets its contract: all blocks that were hopped over lie inside block i.
 use Prim.Native.Nat.{_+_, _-_}
 use mathlib.Core.Path.{_≡_, refl}
 use native.Mathlib.Omega.{arith}
@@ -7,10 +7,10 @@ use lib.ListN.{getD}
 use Rattle.records.specs.Record.{widthOf}
 use Rattle.image.proofs.Addresses.{wide-family}
 use Rattle.scans.specs.Standing.{blocksIn}
-use Rattle.bottom.proofs.Hops.{Hopping, hops-start, hops-next, hops-stop, hops-end}
+use Rattle.links.proofs.Hops.{Hopping, hops-start, hops-next, hops-stop, hops-end}
 use borrow.Author.Needs.{needs}
-use Rattle.bottom.proofs.hop.Statement.{statement}
-use Rattle.bottom.proofs.hop.Tie as tie
+use Rattle.links.proofs.hop.Statement.{statement}
+use Rattle.links.proofs.hop.Tie as tie
 
 abbrev Inv-loop : tie.InvT-loop
 Inv-loop image family starts links n i width end j₀ j =

@@ -14,7 +14,7 @@ use Rattle.image.specs.declared.Run.{Run}
 use Rattle.blocks.specs.Blocks.{Block}
 use Rattle.scans.specs.Standing.{blocksIn, Asked}
 use Rattle.scans.proofs.Walks.{blocksLeft, run-start, run-end, within, Here, comparable, next-left, asked-accepted, asked-few}
-use Rattle.bottom.specs.Links.{absent, nth, Reachable, Started, Gathered, Numbered}
+use Rattle.links.specs.Links.{absent, nth, Reachable, Started, Gathered, Numbered}
 
 -- one more start, stored at n
 pub start-more : (places starts : List ℕ) (from n v : ℕ) → n < length starts → v ≡ getD places (from + n) 0 + 6

@@ -9,7 +9,7 @@ use Rattle.address.specs.Lists.{_∈_}
 use Rattle.blocks.specs.Blocks.{Block}
 use Rattle.address.proofs.Geometry.{Proper, Strictly}
 use Rattle.blocks.proofs.Laminar.{Laminar, empty, cons, Before, around, left, is-proper}
-use Rattle.bottom.specs.Links.{nth}
+use Rattle.links.specs.Links.{nth}
 
 nth-in : (bs : List Block) (k : ℕ) → k < length bs → nth bs k ∈ bs
 nth-in [] k h = absurd (omega (arith, h))

@@ -1,12 +1,12 @@
--- `bottom::gather` meets its contract: the starts stored so far are those of the first blocks.
+-- `links::gather` meets its contract: the starts stored so far are those of the first blocks.
 use Prim.Native.Nat.{ℕ, _+_, _-_, _≤_, _<_}
 use mathlib.Core.Path.{_≡_, _∙_}
 use native.Mathlib.Omega.{arith}
 use lib.ListN.{length, getD, length-set}
-use Rattle.bottom.proofs.Gathers.{start-more}
+use Rattle.links.proofs.Gathers.{start-more}
 use borrow.Author.Needs.{needs}
-use Rattle.bottom.proofs.gather.Statement.{statement}
-use Rattle.bottom.proofs.gather.Tie as tie
+use Rattle.links.proofs.gather.Statement.{statement}
+use Rattle.links.proofs.gather.Tie as tie
 
 abbrev Inv-loop : tie.InvT-loop
 Inv-loop places blocks starts₀ n₀ i₀ starts n i =

@@ -1,14 +1,14 @@
--- `bottom::links_of` meets its contract: the blocks from index i on have their links.
+-- `links::links_of` meets its contract: the blocks from index i on have their links.
 use Prim.Native.Nat.{_-_, _≤_}
 use mathlib.Core.Path.{_≡_, refl, _∙_}
 use native.Mathlib.Omega.{arith}
 use lib.ListN.{length, length-set}
 use Rattle.scans.specs.Standing.{blocksIn}
-use Rattle.bottom.specs.Links.{Linked}
-use Rattle.bottom.proofs.Hops.{linked-more}
+use Rattle.links.specs.Links.{Linked}
+use Rattle.links.proofs.Hops.{linked-more}
 use borrow.Author.Needs.{needs}
-use Rattle.bottom.proofs.links_of.Statement.{statement}
-use Rattle.bottom.proofs.links_of.Tie as tie
+use Rattle.links.proofs.links_of.Statement.{statement}
+use Rattle.links.proofs.links_of.Tie as tie
 
 abbrev Inv-loop : tie.InvT-loop
 Inv-loop image family starts n links₀ i₀ links i =

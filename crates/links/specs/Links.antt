@@ -52,9 +52,3 @@ pub record Gathered (s : List ℕ) (family : ℕ) (starts : List ℕ) (n : ℕ) 
 pub record Numbered (s : List ℕ) (family from n : ℕ) : Type 0 where
   pub few : from + n ≤ 4096
   pub number : (k : ℕ) → k < n → nth (blocksIn s family) k .number ≡ from + k
-
--- what the test of block i asks
-pub record Testable (s : List ℕ) (family : ℕ) (starts links : List ℕ) (n i : ℕ) : Type 0 where
-  pub gathered : Gathered s family starts n
-  pub linked : Linked (blocksIn s family) links 0
-  pub known : i < n
