@@ -15,7 +15,8 @@ use Rattle.records.specs.Record.{widthOf}
 use Rattle.blocks.specs.Scans.{gapPass, gapIn}
 use Rattle.blocks.proofs.Laminar.{Laminar, accepted-laminar}
 use Rattle.scans.specs.Standing.{blocksIn}
-use Rattle.bottom.specs.Links.{nth, Link, Testable}
+use Rattle.links.specs.Links.{nth, Link}
+use Rattle.bottom.specs.Testing.{Testable}
 use Rattle.bottom.proofs.Gaps.{none-free, front, hop, end, child, inner-link}
 
 abbrev ranged : List ℕ → ℕ → ℕ → Range

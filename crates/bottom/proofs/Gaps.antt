@@ -15,8 +15,8 @@ use Rattle.blocks.specs.Scans.{gapPass}
 use Rattle.address.proofs.Tests.{is-true, is-false}
 use Rattle.address.proofs.Geometry.{Proper, Strictly, inside-iff}
 use Rattle.blocks.proofs.Laminar.{Laminar, empty, cons, Before, around, left}
-use Rattle.bottom.specs.Links.{absent, nth, Link}
-use Rattle.bottom.proofs.Indices.{nth-proper, nth-before, begins-inside}
+use Rattle.links.specs.Links.{absent, nth, Link}
+use Rattle.links.proofs.Indices.{nth-proper, nth-before, begins-inside}
 
 outside : (c r : Range) → (Strictly r c → ⊥) → strictlyInside c r ≡ false
 outside c r n = is-false (strictlyInside c r) (λ t. n (inside-iff c r .0 t))

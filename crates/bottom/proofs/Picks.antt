@@ -16,7 +16,7 @@ use Rattle.blocks.proofs.Bottom.{bottom-scan}
 use Rattle.scans.specs.Standing.{blocksIn}
 use Rattle.listing.specs.Listing.{Collected}
 use Rattle.listing.proofs.Emit.{one-more}
-use Rattle.bottom.specs.Links.{nth, Gathered}
+use Rattle.links.specs.Links.{nth, Gathered}
 use Rattle.bottom.proofs.Tests.{select-one, select-none}
 
 module _ {s : List ℕ} {family : ℕ} {starts : List ℕ} {n : ℕ} (g : Gathered s family starts n) (i : ℕ) (h : i < n) (f : Block → Bool)

@@ -15,7 +15,7 @@ use Rattle.blocks.specs.Relations.{select}
 use Rattle.blocks.proofs.Select.{select-kept, select-dropped}
 use Rattle.scans.specs.Standing.{blocksIn}
 use Rattle.scans.specs.Tests.{Comparable}
-use Rattle.bottom.specs.Links.{absent, nth, Gathered}
+use Rattle.links.specs.Links.{absent, nth, Gathered}
 
 module _ {s : List ℕ} {family : ℕ} {starts : List ℕ} {n : ℕ} (g : Gathered s family starts n) where
   pub none-left : (i : ℕ) → n ≤ i → drop i (blocksIn s family) ≡ []

@@ -12,8 +12,9 @@ use Rattle.blocks.specs.Blocks.{Block, blocksOf}
 use Rattle.blocks.specs.Found.{NoBlock, Found}
 use Rattle.blocks.proofs.Families.{family-accepted}
 use Rattle.blocks.proofs.Found as Blocks
+use Rattle.relations.specs.Finding.{foundIn}
 use Rattle.query.specs.declared.Relation.the-variants.{Up, Top}
-use Rattle.calls.specs.Calls.{relationIn, relationOf}
+use Rattle.calls.specs.Calls.{relationOf}
 use Rattle.rdap.specs.Found.{ImageFound}
 use Rattle.rdap.proofs.Forest.{forest}
 
@@ -34,7 +35,7 @@ module _ (image : List ℕ) (records : List Record) (e : imageOf image ≡ sound
 
 -- What is found, and 404 exactly, for every accepted image.
 pub found : (image : List ℕ) (records : List Record) → imageOf image ≡ sound records → ImageFound image records
-unfolding relationIn
+unfolding foundIn
 found image records e =
     record {
       families = families image records e;

@@ -24,16 +24,15 @@ use Rattle.entries.proofs.Halves.{carried}
 use Rattle.entries.proofs.Standing.{standing-of, contents-in-image, place-inside}
 use Rattle.listing.specs.Listing.{Reported}
 use Rattle.listing.specs.declared.Listed.{Listed}
-use Rattle.query.specs.Query.{source}
-use Rattle.search.specs.Search.{numbersFrom, whichOf, fieldOf, isOf, isMatch}
+use Rattle.search.specs.Search.{numbersFrom, whichOf, fieldOf, isMatch}
 use Rattle.search.specs.Picks.{picksRecord}
 
 -- a search by pattern: the part that the text is, and case folded as it asks
 pub matched :
     (run : Run) (text : Text) (form : Form) (pattern s : List ℕ) {fold : Bool} → fold ≡ foldsCase text → {which : Which} → which ≡ whichOf text → {list after : List ℕ} {r : Listed}
     → Reported (numbersFrom (picksRecord (run .first) (run .last) which fold form pattern) 0 (recordsOf (imageOf s))) list after r
-    → Reported (numbersFrom (isMatch (source (run .first) (run .last) text) form pattern) 0 (recordsOf (imageOf s))) list after r
-unfolding isMatch isOf fieldOf
+    → Reported (numbersFrom (isMatch (run .first) (run .last) text form pattern) 0 (recordsOf (imageOf s))) list after r
+unfolding isMatch fieldOf
 matched run text form pattern s e f p = rw (e, f) at p
 
 -- a record of the run, where the index says that it stands

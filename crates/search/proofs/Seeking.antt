@@ -25,8 +25,7 @@ use Rattle.image.specs.declared.Run.{Run}
 use Rattle.image.specs.declared.Which.{Which}
 use Rattle.entries.proofs.Halves.{Sorted, by-neighbours, Halved, fewer}
 use Rattle.entries.proofs.Tags.{record-follows}
-use Rattle.query.specs.Query.{source}
-use Rattle.search.specs.Search.{numbersFrom, whichOf, fieldOf, isOf, isCalled}
+use Rattle.search.specs.Search.{numbersFrom, whichOf, fieldOf, isCalled}
 use Rattle.search.specs.Seeking.{SortedBy, domains, nameservers, entities}
 use Rattle.search.proofs.Picks.{stands, text-here, foundFrom, turn, passed, before-run, behind-run}
 
@@ -79,10 +78,10 @@ module _ {s places : List ℕ} {run : Run} (a : Selected s places run) {text : T
     from i = foundFrom s run which false Exact wanted i
 
     abbrev reading : List ℕ
-    reading = numbersFrom (isCalled (source (run .first) (run .last) text) wanted) 0 (recordsOf (imageOf s))
+    reading = numbersFrom (isCalled (run .first) (run .last) text wanted) 0 (recordsOf (imageOf s))
 
     is-reading : from 0 ≡ reading
-    unfolding isCalled isOf fieldOf matchesForm
+    unfolding isCalled fieldOf matchesForm
     is-reading = ap (λ (x : Which). foundFrom s run x false Exact wanted 0) by
 
     step : (i : ℕ) → run .from ≤ i → i < run .until → {v : Bool} → alike false wanted (key i) ≡ v → from i ≡ keep v i (from (i + 1))

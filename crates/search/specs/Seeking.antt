@@ -8,7 +8,6 @@ use Rattle.image.specs.Image.{imageOf}
 use Rattle.image.specs.Part.{recordsOf}
 use Rattle.image.specs.declared.Run.{Run}
 use Rattle.listing.specs.Listing.{foundNumbers}
-use Rattle.query.specs.Query.{source}
 use Rattle.search.specs.Search.{numbersFrom, isCalled}
 use Rattle.search.specs.declared.Sought.{Sought}
 
@@ -21,4 +20,4 @@ pub data SortedBy : (first last : ℕ) → Text → Type 0 where
 -- 13 comparisons always end the search, with the answer of a full reading.
 pub record SoughtIn (image : List ℕ) (run : Run) (text : Text) (wanted : List ℕ) (r : Sought) : Type 0 where
   pub bounded : r .steps ≤ 13
-  pub answer : foundNumbers (r .found) ≡ numbersFrom (isCalled (source (run .first) (run .last) text) wanted) 0 (recordsOf (imageOf image))
+  pub answer : foundNumbers (r .found) ≡ numbersFrom (isCalled (run .first) (run .last) text wanted) 0 (recordsOf (imageOf image))

@@ -2,7 +2,7 @@
 use mathlib.Core.Path.{refl}
 use borrow.Author.Tests.{not-true, not-false}
 use Rattle.scans.proofs.Walks.{asked-accepted}
-use Rattle.bottom.proofs.Gathers.{reachable, gathered, numbered}
+use Rattle.links.proofs.Gathers.{reachable, gathered, numbered}
 use Rattle.bottom.proofs.Picks.{bottom-some, bottom-none}
 use borrow.Author.Needs.{needs}
 use Rattle.bottom.proofs.bottom.Statement.{statement}

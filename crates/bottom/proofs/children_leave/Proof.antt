@@ -8,7 +8,7 @@ use borrow.Author.Tests.{not-true, not-false, leb-false}
 use Rattle.address.specs.Words.{numberOf}
 use Rattle.blocks.specs.Scans.{gapPass}
 use Rattle.scans.specs.Standing.{blocksIn}
-use Rattle.bottom.specs.Links.{nth}
+use Rattle.links.specs.Links.{nth}
 use Rattle.bottom.proofs.Carry.{room}
 use Rattle.bottom.proofs.Tests.{comparable-at}
 use Rattle.bottom.proofs.Children.{Walking, walk-start, walk-end, child-known, walk-gap, walk-over, walk-next}

@@ -6,7 +6,7 @@ use Rattle.address.specs.Words.{numberOf}
 use Rattle.address.specs.Address.{numbers}
 use Rattle.blocks.specs.Scans.{gapPass, gapIn}
 use Rattle.scans.specs.Standing.{blocksIn}
-use Rattle.bottom.specs.Links.{nth}
+use Rattle.links.specs.Links.{nth}
 use Rattle.bottom.proofs.Tests.{comparable-at}
 use Rattle.bottom.proofs.Children.{whole, walk-none}
 use borrow.Author.Needs.{needs}

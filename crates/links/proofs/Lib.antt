@@ -1,0 +1,3 @@
+pub mod Indices
+pub mod Hops
+pub mod Gathers

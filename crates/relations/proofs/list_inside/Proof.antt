@@ -1,0 +1,34 @@
+-- What was collected is reported.
+use Rattle.listing.proofs.Reports.{in-hits, as-many, few-reported, reported}
+use borrow.Author.Needs.{needs}
+use Rattle.relations.proofs.list_inside.Statement.{statement}
+use Rattle.relations.proofs.list_inside.Tie as tie
+
+collect-requires : tie.Need-collect-requires
+collect-requires c κs = search needs
+
+array-share-prefix-hits : tie.Need-array-share-prefix-hits
+array-share-prefix-hits c = in-hits (c .collect .ensures)
+
+slice-aggregate-report : tie.Need-slice-aggregate-report
+slice-aggregate-report c = as-many (c .before .collect .ensures)
+
+report-requires : tie.Need-report-requires
+report-requires c κs = few-reported (c .before .before .collect .ensures)
+
+same-length : tie.Need-same-length
+same-length c = search needs
+
+returns : tie.Need-returns
+returns c = reported (c .before .before .before .before .before .collect .ensures) (c .before .before .report .ensures)
+
+pub list-inside-spec : {M : Type 1} → statement M
+list-inside-spec =
+    tie.close
+    (tie.spec
+    collect-requires
+    array-share-prefix-hits
+    slice-aggregate-report
+    report-requires
+    same-length
+    returns)

@@ -1,0 +1,37 @@
+// The third call on an image that is checked already: a relation of the block that a record number names.
+ghost use lib.ListN.{length, drop};
+ghost use Rattle.image.specs.Image.{imageOf};
+ghost use Rattle.image.specs.Part.{recordsOf};
+ghost use Rattle.image.specs.Index.{Indexed};
+ghost use Rattle.answers.specs.Answered.{Answered};
+ghost use Rattle.calls.specs.Calls.{blockFirst, ofBlock};
+use answers::Answer;
+use query::Kind;
+use query::Relation;
+
+// The third call on a sound image.
+pub fn relation(
+    image: &[u8],
+    places: &[u32; 4096],
+    count: u32,
+    record_number: u32,
+    relation: Relation,
+    list: &mut [u32],
+) -> Answer
+    requires { ⌜ Indexed (now image) count (now places) ⌝ }
+    ensures { λ r. ⌜ Answered (ofBlock relation (blockFirst (drop record_number (recordsOf (imageOf (now (image .entry)))))) (recordsOf (imageOf (now (image .entry)))) (length (now (list .entry)))) r (now (list .entry)) (now (list .exit)) ⌝ }
+{
+    let kind = Kind::Relation(relation);
+    if count <= record_number {
+        return answers::reply(8, kind, 0);
+    }
+    let at = places[record_number as usize] as usize;
+    let tag = image[at];
+    if 0x12 < tag {
+        return answers::reply(8, kind, 0);
+    }
+    let range = address::range_at(image, at + 6, records::width_of(tag));
+    let what = calls::finding_of(relation);
+    let listed = relations::find(image, places, count, what, tag, range, list);
+    answers::reported(kind, listed)
+}
