@@ -8,7 +8,8 @@ use lib.ListN.{replicate}
 use Rattle.pieces.specs.Ascii.{ascii}
 use Rattle.ip.specs.Ip.{addressOf}
 use Rattle.ip_text.specs.Text.{textOf}
-use Rattle.address_text.specs.Call.{answer, writtenOf, textAfter}
+use Rattle.listing.specs.Writing.{counted}
+use Rattle.address_text.specs.Call.{writtenOf, textAfter}
 use Rattle.address_text.specs.Computing.{computing}
 
 pub record Case : Type 0 where
@@ -41,7 +42,7 @@ cases-hold = refl
 abbrev pub host : List ℕ
 host = 192 ∷ 0 ∷ 2 ∷ 1 ∷ []
 
-pub replies-hold : map (writtenOf host) (11 ∷ 9 ∷ 8 ∷ 0 ∷ []) ≡ answer 0 9 ∷ answer 0 9 ∷ answer 9 9 ∷ answer 9 9 ∷ []
+pub replies-hold : map (writtenOf host) (11 ∷ 9 ∷ 8 ∷ 0 ∷ []) ≡ counted 0 9 ∷ counted 0 9 ∷ counted 9 9 ∷ counted 9 9 ∷ []
 unfolding computing
 replies-hold = refl
 
@@ -51,6 +52,6 @@ unfolding computing
 buffers-hold = refl
 
 -- an address has four bytes or sixteen
-pub refusals-hold : map (λ (n : ℕ). writtenOf (replicate n 1) 99) (0 ∷ 3 ∷ 5 ∷ 15 ∷ 17 ∷ 32 ∷ []) ≡ replicate 6 (answer 6 0)
+pub refusals-hold : map (λ (n : ℕ). writtenOf (replicate n 1) 99) (0 ∷ 3 ∷ 5 ∷ 15 ∷ 17 ∷ 32 ∷ []) ≡ replicate 6 (counted 6 0)
 unfolding computing
 refusals-hold = refl

@@ -5,12 +5,7 @@ ghost use Rattle.address.specs.Positions.{Wide};
 ghost use Rattle.ip_text.specs.Text.{textOf};
 ghost use Rattle.address_text.specs.Call.{writtenOf, textAfter};
 use ip_text::put_text;
-
-// A reason, and the bytes that were written or, under reason 9, that are needed.
-pub struct Written {
-    pub reason: u32,
-    pub count: u32,
-}
+use listing::Counted;
 
 // How many bytes the text has: it is written to a buffer that every text fits into.
 fn size_of(address: &[u8]) -> usize
@@ -22,7 +17,7 @@ fn size_of(address: &[u8]) -> usize
 }
 
 // The text of an address of four bytes or sixteen. Its bytes are counted only where there is less room than the family may need.
-fn write(address: &[u8], text: &mut [u8]) -> Written
+fn write(address: &[u8], text: &mut [u8]) -> Counted
     requires { ⌜ Wide (length (now address)) ⌝ }
     ensures { λ r. ⌜ r ≡ writtenOf (now (address .entry)) (length (now (text .entry))) ⌝ }
     ensures { λ r. ⌜ now (text .exit) ≡ textAfter (now (address .entry)) (now (text .entry)) ⌝ }
@@ -31,21 +26,21 @@ fn write(address: &[u8], text: &mut [u8]) -> Written
     if text.len() < most {
         let size = size_of(address);
         if text.len() < size {
-            return Written {
+            return Counted {
                 reason: 9,
                 count: size as u32,
             };
         }
     }
     let n = put_text(address, text);
-    Written {
+    Counted {
         reason: 0,
         count: n as u32,
     }
 }
 
 // Writes the text of an address to the front of the buffer, if it has room for it.
-pub fn address_text(address: &[u8], text: &mut [u8]) -> Written
+pub fn address_text(address: &[u8], text: &mut [u8]) -> Counted
     ensures { λ r. ⌜ r ≡ writtenOf (now (address .entry)) (length (now (text .entry))) ⌝ }
     ensures { λ r. ⌜ now (text .exit) ≡ textAfter (now (address .entry)) (now (text .entry)) ⌝ }
 {
@@ -56,7 +51,7 @@ pub fn address_text(address: &[u8], text: &mut [u8]) -> Written
     if n == 16 {
         return write(address, text);
     }
-    Written {
+    Counted {
         reason: 6,
         count: 0,
     }

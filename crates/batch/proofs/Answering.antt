@@ -1,8 +1,8 @@
 -- What is written to the list of a batch, one answer after another into the rest of it.
 use Prim.Native.Nat.{ℕ, _+_, _-_, _≤_, _<_}
 use Prim.Native.Char.{code}
-use mathlib.Core.Path.{_≡_, refl, sym, ap, subst, _∙_}
-use mathlib.Core.List.{List, [], _∷_, _++_, append-assoc, append-nil}
+use mathlib.Core.Path.{_≡_, refl, ap, subst, _∙_}
+use mathlib.Core.List.{List, [], _∷_, _++_}
 use native.Mathlib.Omega.{arith}
 use borrow.Author.Tests.{lt-ltb, le-ltb}
 use borrow.Rule.Slice.PartMut.{putMid}
@@ -15,8 +15,8 @@ use Rattle.image.specs.Image.{Image, imageOf}
 use Rattle.image.specs.Place.{verdictOf}
 use Rattle.image.specs.declared.Verdict.the-variants.{Sound}
 use Rattle.image.proofs.Soundness.{is-sound}
-use Rattle.listing.specs.Writing.{Written}
-use Rattle.listing.proofs.Writing.{written-nothing, written-length, rest-length, rest-put, written-both}
+use Rattle.listing.specs.Writing.{Written, Reached}
+use Rattle.listing.proofs.Writing.{written-over, written-length, rest-length, rest-put, at-start, next-part, at-end}
 use Rattle.query.specs.declared.Kind.the-variants as Kind
 use Rattle.answers.specs.declared.Answer.{Answer}
 use Rattle.answers.specs.Reply.{Reply, ofReason, refusal, line, listAfter}
@@ -68,35 +68,26 @@ line-in-rest path image list ys at n l =
 -- All answers: what is written, and what follows for the paths that are left, are the whole
 
 pub record SoFar (image : Image) (text before list : List ℕ) (answered start at : ℕ) : Type 0 where
-  pub written : List ℕ
-  pub front : Written written before list at
+  pub reached : Reached (lines (answersIn image (pathsOf text) (length before))) (lines (answersIn image (piecesFrom (code "\n") text start) (length before - at))) before list at
   pub room : at ≤ length before
-  pub whole : written ++ lines (answersIn image (piecesFrom (code "\n") text start) (length before - at)) ≡ lines (answersIn image (pathsOf text) (length before))
   pub counted : answered + length (answersIn image (piecesFrom (code "\n") text start) (length before - at)) ≡ length (answersIn image (pathsOf text) (length before))
 
 pub nothing-yet : (image : Image) (text list : List ℕ) → SoFar image text list list 0 0 0
 unfolding pathsOf
 nothing-yet image text list =
     let z : length list - 0 ≡ length list = omega arith in
-    record {
-      written = [];
-      front = written-nothing list;
-      room = omega arith;
-      whole = rw (z, from-start (code "\n") text);
-      counted = rw (z, from-start (code "\n") text) (omega arith);
-    }
+    record { reached = rw (z, from-start (code "\n") text) (at-start _ list); room = omega arith; counted = rw (z, from-start (code "\n") text) (omega arith) }
 
 module _ {image : Image} {text before list : List ℕ} {answered start at : ℕ} (s : SoFar image text before list answered start at) where
   pub kept-length : length list ≡ length before
-  kept-length = written-length (s .front) (s .room)
+  kept-length = written-length (s .reached .written) (s .room)
 
   -- no more answers
   ended : answersIn image (piecesFrom (code "\n") text start) (length before - at) ≡ [] → Answering (answersIn image (pathsOf text) (length before)) before list answered
   unfolding lines
   ended e =
-      let w : s .written ≡ lines (answersIn image (pathsOf text) (length before)) = sym (append-nil (s .written)) ∙ rw e at (s .whole) in
       let n = rw e at (s .counted) in
-      record { count = omega arith; list = rw (s .front .size, w) at (s .front .is) }
+      record { count = omega arith; list = written-over (at-end (rw e at (s .reached))) }
 
   pub all-answered : length text < start → Answering (answersIn image (pathsOf text) (length before)) before list answered
   all-answered h = ended (rw (from-end (code "\n") text start h) (no-paths image (length before - at)))
@@ -131,16 +122,7 @@ module _ {image : Image} {text before list : List ℕ} {answered start at : ℕ}
         let f = next-fits in
         let q = s .counted in
         let p = ap length still in
-        record {
-          written = s .written ++ line next;
-          front = written-both (s .front) l;
-          room = omega (arith, l .size, kept-length);
-          whole =
-              rw e
-              (append-assoc (s .written) (line next) (lines (answersIn image (piecesFrom (code "\n") text (end + 1)) (length before - at - length (line next))))
-              ∙ rw still at (s .whole));
-          counted = rw e (omega arith);
-        }
+        record { reached = rw e (next-part (s .reached) (record { is = rw still }) l); room = omega (arith, l .size, kept-length); counted = rw e (omega arith) }
 
 -- The call on a sound image, by the number of paths
 

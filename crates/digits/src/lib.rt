@@ -13,7 +13,7 @@ pub enum Base {
 }
 
 // The digit of a value, in lower case.
-fn digit(d: u16) -> u8
+fn digit(d: u32) -> u8
     requires { ⌜ d < 16 ⌝ }
     ensures { λ r. ⌜ r ≡ digitOf d ⌝ }
 {
@@ -24,7 +24,7 @@ fn digit(d: u16) -> u8
 }
 
 // How many digits n has to the base.
-fn count_digits(n: u16, base: u16) -> usize
+fn count_digits(n: u32, base: u32) -> usize
     requires { ⌜ 2 ≤ base ⌝ }
     ensures { λ r. ⌜ r ≡ length (numeralText base n) ⌝ }
 {
@@ -38,7 +38,7 @@ fn count_digits(n: u16, base: u16) -> usize
 }
 
 // The digits of n to the base, from the last to the first. Gives how many there are.
-fn put_digits(n: u16, base: u16, text: &mut [u8]) -> usize
+fn put_digits(n: u32, base: u32, text: &mut [u8]) -> usize
     requires { ⌜ (2 ≤ base) × (base ≤ 16) × (length (numeralText base n) ≤ length (now text)) ⌝ }
     ensures { λ r. ⌜ Written (numeralText base n) (now (text .entry)) (now (text .exit)) r ⌝ }
 {
@@ -55,7 +55,7 @@ fn put_digits(n: u16, base: u16, text: &mut [u8]) -> usize
 }
 
 // A number in decimal digits.
-pub fn put_decimal(n: u16, text: &mut [u8]) -> usize
+pub fn put_decimal(n: u32, text: &mut [u8]) -> usize
     requires { ⌜ length (decimalText n) ≤ length (now text) ⌝ }
     ensures { λ r. ⌜ Written (decimalText n) (now (text .entry)) (now (text .exit)) r ⌝ }
 {
@@ -63,14 +63,14 @@ pub fn put_decimal(n: u16, text: &mut [u8]) -> usize
 }
 
 // A number in hex digits.
-pub fn put_hex(n: u16, text: &mut [u8]) -> usize
+pub fn put_hex(n: u32, text: &mut [u8]) -> usize
     requires { ⌜ length (hexText n) ≤ length (now text) ⌝ }
     ensures { λ r. ⌜ Written (hexText n) (now (text .entry)) (now (text .exit)) r ⌝ }
 {
     put_digits(n, 16, text)
 }
 
-fn put_number(base: Base, n: u16, text: &mut [u8]) -> usize
+fn put_number(base: Base, n: u32, text: &mut [u8]) -> usize
     requires { ⌜ length (numeralText (radix base) n) ≤ length (now text) ⌝ }
     ensures { λ r. ⌜ Written (numeralText (radix base) n) (now (text .entry)) (now (text .exit)) r ⌝ }
 {
@@ -81,7 +81,7 @@ fn put_number(base: Base, n: u16, text: &mut [u8]) -> usize
 }
 
 // A separator and a number.
-fn put_next(sep: u8, base: Base, n: u16, text: &mut [u8]) -> usize
+fn put_next(sep: u8, base: Base, n: u32, text: &mut [u8]) -> usize
     requires { ⌜ length (following sep (radix base) (n ∷ [])) ≤ length (now text) ⌝ }
     ensures { λ r. ⌜ Written (following sep (radix base) (n ∷ [])) (now (text .entry)) (now (text .exit)) r ⌝ }
 {
@@ -90,7 +90,7 @@ fn put_next(sep: u8, base: Base, n: u16, text: &mut [u8]) -> usize
 }
 
 // A separator and a number, for each: it is written into the rest of the text, from where the last one ended.
-fn put_following(sep: u8, base: Base, numbers: &[u16], text: &mut [u8]) -> usize
+pub fn put_following(sep: u8, base: Base, numbers: &[u32], text: &mut [u8]) -> usize
     requires { ⌜ length (following sep (radix base) (now numbers)) ≤ length (now text) ⌝ }
     ensures { λ r. ⌜ Written (following sep (radix base) (now (numbers .entry))) (now (text .entry)) (now (text .exit)) r ⌝ }
 {
@@ -102,7 +102,7 @@ fn put_following(sep: u8, base: Base, numbers: &[u16], text: &mut [u8]) -> usize
 }
 
 // Numbers with a separator between each two.
-pub fn put_spelled(sep: u8, base: Base, numbers: &[u16], text: &mut [u8]) -> usize
+pub fn put_spelled(sep: u8, base: Base, numbers: &[u32], text: &mut [u8]) -> usize
     requires { ⌜ length (spelled sep (radix base) (now numbers)) ≤ length (now text) ⌝ }
     ensures { λ r. ⌜ Written (spelled sep (radix base) (now (numbers .entry))) (now (text .entry)) (now (text .exit)) r ⌝ }
 {

@@ -1,4 +1,3 @@
-pub mod Writing
 pub mod Rows
 pub mod Lengths
 pub mod Networks

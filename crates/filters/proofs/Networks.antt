@@ -15,7 +15,7 @@ use Rattle.address.specs.Ranges.{rangeFrom, wellFormed}
 use Rattle.listing.specs.Writing.{Written}
 use Rattle.listing.proofs.Writing.{written-nothing}
 use Rattle.prefixes.specs.Call.{IpRange, ipRange, ipRangeOf, prefixesIn, entriesIn, prefixedOf, bufferAfter}
-use Rattle.prefixes.specs.declared.Prefixed.{Prefixed}
+use Rattle.listing.specs.declared.Counted.{Counted}
 use Rattle.prefixes.proofs.Answers.{answers-shortest}
 use Rattle.prefixes.proofs.Writing.{by-width, length-entries}
 use Rattle.layouts.specs.declared.Format.{Format}
@@ -73,7 +73,7 @@ pub record Network (s after : List ℕ) (count : ℕ) : Type 0 where
   pub counted : count ≡ length (prefixesIn network)
   pub entries : after ≡ entriesIn network ++ rest
 
-module _ (s out : List ℕ) {after : List ℕ} {r : Prefixed} (bytes : Bytes s) (ample : length out ≡ 4318) (p : r ≡ prefixedOf (ipRangeOf s) (length out)) (q : after ≡ bufferAfter (ipRangeOf s) out) where
+module _ (s out : List ℕ) {after : List ℕ} {r : Counted} (bytes : Bytes s) (ample : length out ≡ 4318) (p : r ≡ prefixedOf (ipRangeOf s) (length out)) (q : after ≡ bufferAfter (ipRangeOf s) out) where
   enough : (a : IpRange) → ipRangeOf s ≡ some a → ltb (length out) (length (entriesIn a)) ≡ false
   unfolding entriesIn
   enough a e = le-ltb (length out) (length (entriesIn a)) (omega (arith, length-entries (a .width) (prefixesIn a), few-bytes s bytes a e))
@@ -83,13 +83,13 @@ module _ (s out : List ℕ) {after : List ℕ} {r : Prefixed} (bytes : Bytes s) 
   a-network zero-reason = go (ipRangeOf s) refl p q
     where
       go : (o : Option IpRange) → ipRangeOf s ≡ o → r ≡ prefixedOf o (length out) → after ≡ bufferAfter o out → Network s after (r .count)
-      go none e p q = absurd (omega (arith, ap (λ (x : Prefixed). x .reason) p))
+      go none e p q = absurd (omega (arith, ap (λ (x : Counted). x .reason) p))
       go (some a) e p q = record {
         network = a;
         is = e;
         bytes = bytes;
         rest = drop (length (entriesIn a)) out;
-        counted = ap (λ (x : Prefixed). x .count) p;
+        counted = ap (λ (x : Counted). x .count) p;
         entries = rw (enough a e) at q;
       }
 
@@ -99,7 +99,7 @@ module _ (s out : List ℕ) {after : List ℕ} {r : Prefixed} (bytes : Bytes s) 
     where
       go : (o : Option IpRange) → ipRangeOf s ≡ o → r ≡ prefixedOf o (length out) → o ≡ none
       go none e p = refl
-      go (some a) e p = absurd (other-reason (ap (λ (x : Prefixed). x .reason) p ∙ rw (enough a e)))
+      go (some a) e p = absurd (other-reason (ap (λ (x : Counted). x .reason) p ∙ rw (enough a e)))
 
 module _ (s : List ℕ) (a : IpRange) (is : ipRangeOf s ≡ some a) where
   width-is : length s / 2 ≡ a .width

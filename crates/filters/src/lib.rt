@@ -10,13 +10,13 @@ ghost use Rattle.filters.specs.Rows.{slashed, rowText, entryRows, entrie
 use layouts::FOOT;
 use layouts::Format;
 use layouts::SLASH;
-use layouts::put;
 use layouts::put_before;
 use layouts::put_end;
 use layouts::put_fixed;
 use layouts::put_head;
 use layouts::put_name;
 use layouts::style_of;
+use listing::put_bytes;
 
 // Bytes that every filter fits into.
 pub const ROOM: usize = 38973;
@@ -28,7 +28,7 @@ fn put_prefix(style: usize, address: &[u8], bits: u8, out: &mut [u8]) -> usize
 {
     let mut at = ip_text::put_text(address, out);
     at += put_fixed(8 * style + SLASH, &mut out[at..]);
-    at + digits::put_decimal(bits as u16, &mut out[at..])
+    at + digits::put_decimal(bits as u32, &mut out[at..])
 }
 
 // The row of a prefix after which so many are left.
@@ -43,7 +43,7 @@ fn put_row(
     requires { ⌜ (style < 6) × Wide (length (now address)) × (length (rowText style (now before) (now address) bits left) ≤ length (now out)) ⌝ }
     ensures { λ r. ⌜ Written (rowText style (now (before .entry)) (now (address .entry)) bits left) (now (out .entry)) (now (out .exit)) r ⌝ }
 {
-    let mut at = put(before, out);
+    let mut at = put_bytes(before, out);
     at += put_prefix(style, address, bits, &mut out[at..]);
     at + put_end(style, left, &mut out[at..])
 }

@@ -1,13 +1,14 @@
 -- The answers of the call.
 use mathlib.Core.Path.{_≡_, refl, sym, _∙_, ap, subst}
 use mathlib.Core.Bool.{Bool, true, false, cond}
-use mathlib.Core.List.{List, _++_}
-use Prim.Native.Nat.{ℕ, _+_, _-_, _≤_, _<_}
+use mathlib.Core.List.{List, [], _++_}
+use Prim.Native.Nat.{ℕ, _+_, _≤_, _<_}
 use native.Mathlib.Omega.{arith}
+use native.Mathlib.Numerals.{add-one}
 use borrow.Author.Tests.{le-leb, lt-leb}
 use lib.Dec.{leb}
-use lib.ListN.{length, take, drop}
-use borrow.Rule.Slice.PartMut.{putMid}
+use lib.ListN.{length, getD, take, drop, length-take, drop-of-length-le}
+use lib.Seq.{drop-cons, getD-take}
 use Rattle.records.specs.Record.{Record}
 use Rattle.image.specs.Image.{sound, startsRight, imageOf}
 use Rattle.image.specs.Part.{recordsOf}
@@ -20,12 +21,12 @@ use Rattle.rows.specs.Entry.{Entry, entriesOf, rowOf}
 use Rattle.rows.proofs.Images.{length-of, entries-good}
 use Rattle.rows.proofs.Rows.{parsed-entries}
 use Rattle.rows.proofs.Ordering.{sound-ordered}
-use Rattle.merged.specs.Held.{entriesAt, Held}
+use Rattle.merged.specs.Held.{bytesAt, entriesAt, Held}
 use Rattle.merged.proofs.Rows.{index-entries}
 use Rattle.changes.specs.Change.{Changed, done, refusedAt, changesOf}
 use Rattle.changes.specs.Fold.{badImage, badChange, noRoom, fits, finished, afterChanges, foldOf, afterImage}
 use Rattle.listing.specs.Writing.{Written}
-use Rattle.listing.proofs.Writing.{written-both}
+use Rattle.listing.proofs.Writing.{Parted, written-over}
 use Rattle.applying.specs.Steps.{AppliedTo}
 use Rattle.applying.specs.declared.Applied.{Applied}
 use Rattle.applying.specs.declared.Applied.the-variants.{Done, RefusedAt}
@@ -50,18 +51,27 @@ module _ (out before : List ℕ) (v : Verdict) (e : v ≡ verdictOf (imageOf out
         → r ≡ counting 0 written → Gives (finished out (length before) (imageOf out)) before after r
     finish-written h after written w k =
         rw (result, le-leb (length out) (length before) (omega arith))
-        (record { numbers = k ∙ ap (counting 0) (w .size); out = w .is ∙ ap (λ (n : ℕ). out ++ drop n before) (w .size) })
+        (record { numbers = k ∙ ap (counting 0) (w .size); out = written-over w })
 
 -- the start of an image and a row of so many bytes
 pub image-size : (image : List ℕ) (es : List Entry) → startsRight image ≡ true → (size : ℕ) → size ≡ length (rowOf es) → 4 + size ≡ length (take 4 image ++ rowOf es)
 image-size image es s size e = ap (λ (n : ℕ). 4 + n) e ∙ sym (length-of image (rowOf es) s)
 
--- Bytes written behind others
+-- The records one after another
 
-pub put-next : {s r x before b c row : List ℕ} {m : ℕ} → Written s before b m → r ≡ x → row ≡ s ++ x → c ≡ r ++ drop (length r) (take (length b - m) (drop m b))
-    → Written row before (putMid m (length b - m) b c) (m + length r)
-put-next {s} {r} {x} {before} {b} {c} {row} {m} u e f g =
-    subst (λ (t : List ℕ). Written t before (putMid m (length b - m) b c) (m + length r)) (ap (λ (t : List ℕ). s ++ t) e ∙ sym f) (written-both u (record { size = refl; is = g }))
+module _ (image changes index : List ℕ) (n : ℕ) (h : n ≤ length index) {i : ℕ} where
+  pub next-record : i < n
+      → Parted (rowOf (entriesAt image changes (drop i (take n index)))) (bytesAt image changes (getD index i 0)) (rowOf (entriesAt image changes (drop (i + 1) (take n index))))
+  unfolding rowOf
+  next-record l =
+      let inside : i < length (take n index) = omega (arith, length-take n index) in
+      record { is = rw (add-one i, drop-cons (take n index) i 0 inside, getD-take n index i 0 l) }
+
+  pub no-record : n ≤ i → rowOf (entriesAt image changes (drop i (take n index))) ≡ []
+  unfolding rowOf
+  no-record l =
+      let all : length (take n index) ≤ i = omega (arith, length-take n index) in
+      rw (drop-of-length-le (take n index) all)
 
 -- The changes
 

@@ -1,8 +1,9 @@
 -- What the call answers, and the whole buffer afterwards (S2.8).
 use mathlib.Core.Path.{_≡_}
-use mathlib.Core.List.{List, _++_}
+use mathlib.Core.List.{List}
 use Prim.Native.Nat.{ℕ}
-use lib.ListN.{length, drop}
+use lib.ListN.{length}
+use Rattle.listing.specs.Writing.{over}
 use Rattle.changes.specs.Fold.{Folding, finished}
 use Rattle.image.specs.Image.{imageOf}
 use Rattle.fold.specs.declared.Folded.{Folded}
@@ -17,7 +18,7 @@ counting reason count = record { reason = reason; count = count; defect = 0; pla
 
 -- the buffer: what was written, then what it held before
 abbrev pub outAfter : Folding → List ℕ → List ℕ
-outAfter f out = f .written ++ drop (length (f .written)) out
+outAfter f out = over (f .written) out
 
 pub record Gives (f : Folding) (before after : List ℕ) (r : Folded) : Type 0 where
   pub numbers : r ≡ foldedOf f

@@ -37,8 +37,7 @@ fn put_records<'a>(
     let mut i: usize = 0;
     while i < n {
         let r = record_at(image, changes, index[i]);
-        put_bytes(r, &mut out[at..]);
-        at += r.len();
+        at += put_bytes(r, &mut out[at..]);
         i += 1;
     }
     at

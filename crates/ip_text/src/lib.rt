@@ -22,41 +22,40 @@ struct ZeroRuns {
 }
 
 // Given bytes, and numbers in the rest of the text after them.
-fn put_after(front: &[u8], sep: u8, base: Base, numbers: &[u16], text: &mut [u8]) -> usize
+fn put_after(front: &[u8], sep: u8, base: Base, numbers: &[u32], text: &mut [u8]) -> usize
     requires { ⌜ length (now front) + length (spelled sep (radix base) (now numbers)) ≤ length (now text) ⌝ }
     ensures { λ r. ⌜ Written (now (front .entry) ++ spelled sep (radix base) (now (numbers .entry))) (now (text .entry)) (now (text .exit)) r ⌝ }
 {
-    let at = front.len();
-    put_bytes(front, text);
+    let at = put_bytes(front, text);
     at + put_spelled(sep, base, numbers, &mut text[at..])
 }
 
 // ---- an address as numbers
 
 // The four numbers of an IPv4 address.
-fn octets_of(bytes: &[u8]) -> [u16; 4]
+fn octets_of(bytes: &[u8]) -> [u32; 4]
     requires { ⌜ length (now bytes) ≡ 4 ⌝ }
     ensures { λ r. ⌜ r ≡ now (bytes .entry) ⌝ }
 {
-    let mut octets = [0u16; 4];
+    let mut octets = [0u32; 4];
     let mut i: usize = 0;
     while i < 4 {
-        octets[i] = bytes[i] as u16;
+        octets[i] = bytes[i] as u32;
         i += 1;
     }
     octets
 }
 
 // The eight groups of an IPv6 address.
-fn groups_of(bytes: &[u8]) -> [u16; 8]
+fn groups_of(bytes: &[u8]) -> [u32; 8]
     requires { ⌜ length (now bytes) ≡ 16 ⌝ }
     ensures { λ r. ⌜ r ≡ groupsOf (now (bytes .entry)) ⌝ }
 {
-    let mut groups = [0u16; 8];
+    let mut groups = [0u32; 8];
     let mut i: usize = 0;
     while i < 8 {
-        let high = bytes[2 * i] as u16;
-        let low = bytes[2 * i + 1] as u16;
+        let high = bytes[2 * i] as u32;
+        let low = bytes[2 * i + 1] as u32;
         groups[i] = high * 256 + low;
         i += 1;
     }
@@ -64,7 +63,7 @@ fn groups_of(bytes: &[u8]) -> [u16; 8]
 }
 
 // One pass over the groups, from the last to the first.
-fn zero_runs(groups: &[u16]) -> ZeroRuns
+fn zero_runs(groups: &[u32]) -> ZeroRuns
     ensures { λ r. ⌜ RunsOf (now (groups .entry)) (r .first) (r .longest) (r .at) ⌝ }
 {
     let mut first: usize = 0;
@@ -89,7 +88,7 @@ fn zero_runs(groups: &[u16]) -> ZeroRuns
 // ---- texts
 
 // Groups, "::" and groups.
-fn put_elided(left: &[u16], right: &[u16], text: &mut [u8]) -> usize
+fn put_elided(left: &[u32], right: &[u32], text: &mut [u8]) -> usize
     requires { ⌜ length (colons (now left) ++ (ascii "::" ++ colons (now right))) ≤ length (now text) ⌝ }
     ensures { λ r. ⌜ Written (colons (now (left .entry)) ++ (ascii "::" ++ colons (now (right .entry)))) (now (text .entry)) (now (text .exit)) r ⌝ }
 {
@@ -98,7 +97,7 @@ fn put_elided(left: &[u16], right: &[u16], text: &mut [u8]) -> usize
 }
 
 // The longest run of at least two zero groups shortened.
-fn put_shortened(groups: &[u16], longest: usize, at: usize, text: &mut [u8]) -> usize
+fn put_shortened(groups: &[u32], longest: usize, at: usize, text: &mut [u8]) -> usize
     requires { ⌜ (longest ≡ longestRun (now groups)) × (at ≡ runAt (longestRun (now groups)) (now groups)) × (length (shortened (now groups)) ≤ length (now text)) ⌝ }
     ensures { λ r. ⌜ Written (shortened (now (groups .entry))) (now (text .entry)) (now (text .exit)) r ⌝ }
 {

@@ -66,14 +66,6 @@ pub fn put_name(format: Format, handle: &[u8], out: &mut [u8]) -> usize
     handle.len()
 }
 
-pub fn put(s: &[u8], out: &mut [u8]) -> usize
-    requires { ⌜ length (now s) ≤ length (now out) ⌝ }
-    ensures { λ r. ⌜ Written (now (s .entry)) (now (out .entry)) (now (out .exit)) r ⌝ }
-{
-    put_bytes(s, out);
-    s.len()
-}
-
 // The texts of a layout by their numbers: the head before and after the name, what stands before each prefix, before and after the name, the
 // slash, what stands after each prefix but the last, after the last, and the foot.
 const BEFORE: usize = 2;
@@ -179,7 +171,7 @@ fn put_part(s: &[u8], from: usize, end: usize, out: &mut [u8]) -> usize
     requires { ⌜ (from ≤ end) × (end ≤ length (now s)) × (end - from ≤ length (now out)) ⌝ }
     ensures { λ r. ⌜ Written (take (end - from) (drop from (now (s .entry)))) (now (out .entry)) (now (out .exit)) r ⌝ }
 {
-    put(&s[from..end], out)
+    put_bytes(&s[from..end], out)
 }
 
 // The text with a number.
@@ -199,7 +191,7 @@ fn put_named(k: usize, name: &[u8], out: &mut [u8]) -> usize
     ensures { λ r. ⌜ Written (namedAt k (now (name .entry))) (now (out .entry)) (now (out .exit)) r ⌝ }
 {
     let mut at = put_fixed(k, out);
-    at += put(name, &mut out[at..]);
+    at += put_bytes(name, &mut out[at..]);
     at + put_fixed(k + 1, &mut out[at..])
 }
 

@@ -1,4 +1,1 @@
-pub mod Digits
-pub mod Writing
 pub mod Lines
-pub mod Reading

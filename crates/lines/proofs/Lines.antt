@@ -1,31 +1,22 @@
--- The parts of a line; and an answer with the record numbers that it reports is the reply.
+-- An answer with the record numbers that it reports is the reply.
 use Prim.Native.Nat.{ℕ, _+_, _-_, _≤_, _<_}
-use Prim.Native.Char.{code}
 use mathlib.Core.Path.{_≡_, sym, ap, _∙_}
-use mathlib.Core.List.{List, [], _∷_, _++_, append-assoc}
+use mathlib.Core.List.{List, _++_}
 use native.Mathlib.Omega.{arith}
 use borrow.Author.Tests.{lt-ltb, le-ltb}
 use lib.ListN.{length, take, drop, length-append, length-drop, take-append-drop}
 use lib.Seq.{take-at, length-take-le}
 use borrow.Rule.Slice.PartMut.{putMid}
-use Rattle.numeral.specs.Digits.{decimalText, spelled}
+use Rattle.listing.specs.Writing.{Written}
+use Rattle.listing.proofs.Writing.{rest-length, written-nothing, written-both}
 use Rattle.answers.specs.declared.Answer.{Answer}
-use Rattle.answers.specs.Reply.{Reply, kindNumber, listAfter, line}
+use Rattle.answers.specs.Reply.{Reply, listAfter}
 use Rattle.answers.specs.Answered.{replyOf, Answered}
 use Rattle.answers.specs.Reporting.{reportedOf}
+use Rattle.line_text.specs.Line.{lineText}
 use Rattle.calls.specs.Replies.{Consistent}
 use Rattle.calls.proofs.Replies.{fits, reported-all}
-use Rattle.lines.specs.Line.{following, spaced, lineText, room, textIn, Lined}
-use Rattle.listing.specs.Writing.{Written}
-use Rattle.listing.proofs.Writing.{rest-length, written-both}
-use Rattle.numeral.proofs.Spelled.{following-append}
-
-pub line-parts : (a : Answer) (records : List ℕ) → lineText (replyOf a records) ≡ spaced (line (replyOf a [])) ++ following records ++ (code "\n" ∷ [])
-unfolding lineText spelled line replyOf
-line-parts a records =
-    let head : List ℕ = a .reason ∷ kindNumber (a .kind) ∷ a .count ∷ [] in
-    ap (λ (t : List ℕ). t ++ (code "\n" ∷ []))
-    (ap (λ (t : List ℕ). decimalText (a .status) ++ t) (following-append 32 10 head records) ∙ sym (append-assoc (decimalText (a .status)) (following head) (following records)))
+use Rattle.lines.specs.Lined.{room, textIn, Lined}
 
 module _ {places : ℕ} {reply : Reply} {a : Answer} {before after : List ℕ} (k : Consistent places reply) (h : Answered reply a before after) where
   pub reported-few : reportedOf a ≤ places
@@ -40,23 +31,23 @@ module _ {places : ℕ} {reply : Reply} {a : Answer} {before after : List ℕ} (
 module _ {reply : Reply} {list list′ out : List ℕ} where
   pub no-room : list′ ≡ listAfter reply list → length out < room → Lined reply list list′ out out 0
   unfolding textIn
-  no-room e h = record { bytes = rw (lt-ltb _ _ h); text = rw (lt-ltb _ _ h); records = e }
+  no-room e h = record { text = rw (lt-ltb _ _ h) (written-nothing out); records = e }
 
   module _ {out′ : List ℕ} {n : ℕ} (h : room ≤ length out) where
     pub line-put : list′ ≡ listAfter reply list → Written (lineText reply) out out′ n → Lined reply list list′ out out′ n
     unfolding textIn
-    line-put e w = record { bytes = rw (le-ltb _ _ h) (w .size); text = rw (le-ltb _ _ h) (w .is); records = e }
+    line-put e w = record { text = rw (le-ltb _ _ h) w; records = e }
 
     put-line : Lined reply list list′ out out′ n → Written (lineText reply) out out′ n
     unfolding textIn
-    put-line l = record { size = rw (le-ltb _ _ h) at (l .bytes); is = rw (le-ltb _ _ h) at (l .text) }
+    put-line l = rw (le-ltb _ _ h) at (l .text)
 
 -- for a caller that lends the rest of a buffer
 module _ (out : List ℕ) (at : ℕ) {reply : Reply} {list list′ rest : List ℕ} {n : ℕ} (l : Lined reply list list′ (take (length out - at) (drop at out)) rest n) where
   pub line-fits : length rest ≡ length (take (length out - at) (drop at out)) → n ≤ length out - at
   line-fits e =
       let text : List ℕ = textIn reply (length (take (length out - at) (drop at out))) in
-      omega (arith, l .bytes, e, rest-length out at, ap length (l .text) ∙ length-append text _, length-drop n (take (length out - at) (drop at out)))
+      omega (arith, l .text .size, e, rest-length out at, ap length (l .text .is) ∙ length-append text _, length-drop n (take (length out - at) (drop at out)))
 
   pub line-at : at + room ≤ length out → Written (take at out ++ lineText reply) out (putMid at (length out - at) out rest) (at + n)
   line-at h =

@@ -7,7 +7,7 @@ use Rattle.pieces.specs.Ascii.{ascii}
 use Rattle.image.specs.Example.{example}
 use Rattle.calls.specs.Calls.{answerOf}
 use Rattle.calls.specs.Cases.{registryS}
-use Rattle.lines.specs.Line.{lineText}
+use Rattle.line_text.specs.Line.{lineText}
 use Rattle.lines.specs.Computing.{computing}
 
 record Case : Type 0 where

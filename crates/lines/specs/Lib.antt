@@ -1,3 +1,3 @@
-pub mod Line
+pub mod Lined
 pub mod Computing
 pub mod Examples

@@ -2,13 +2,14 @@
 use Prim.Native.Nat.{ℕ, _≤_}
 use mathlib.Core.Bool.{cond}
 use mathlib.Core.Path.{_≡_}
-use mathlib.Core.List.{List, [], _∷_, _++_}
+use mathlib.Core.List.{List, [], _∷_}
 use lib.Dec.{ltb}
-use lib.ListN.{length, take, drop}
+use lib.ListN.{length, take}
 use Rattle.listing.specs.declared.Found.{Found}
 use Rattle.listing.specs.declared.Found.the-variants.{At, Nothing}
 use Rattle.listing.specs.declared.Listed.{Listed}
 use Rattle.listing.specs.declared.Listed.the-variants.{Done, Full}
+use Rattle.listing.specs.Writing.{ifRoom}
 
 -- the record numbers that are found
 abbrev pub foundNumbers : Found → List ℕ
@@ -21,7 +22,7 @@ listedOf found places = cond (ltb places (length found)) (Full (length found)) (
 
 -- The list afterwards: the first count places hold the record numbers, the rest are unchanged; where they do not fit all of it is.
 unfoldable pub listAfterwards : List ℕ → List ℕ → List ℕ
-listAfterwards found list = cond (ltb (length list) (length found)) list (found ++ drop (length found) list)
+listAfterwards = ifRoom
 
 -- What a call that reports the record numbers found promises: its answer, and the whole list afterwards.
 pub record Reported (found list after : List ℕ) (r : Listed) : Type 0 where

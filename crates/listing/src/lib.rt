@@ -1,9 +1,8 @@
 // Record numbers reported to a lent list, and bytes written to a lent buffer.
-ghost use mathlib.Core.Path.{_≡_};
-ghost use mathlib.Core.List.{_++_};
 ghost use Prim.Native.Nat.{_≤_};
-ghost use lib.ListN.{length, drop};
+ghost use lib.ListN.{length};
 ghost use Rattle.listing.specs.Listing.{foundNumbers, Reported};
+ghost use Rattle.listing.specs.Writing.{Written};
 
 // The number of a record, if there is one.
 pub enum Found {
@@ -46,12 +45,19 @@ pub fn report_found(found: Found, list: &mut [u32]) -> Listed
     }
 }
 
-// The bytes of a slice, to the front of a buffer.
-pub fn put_bytes(s: &[u8], out: &mut [u8])
+// The bytes of a slice, to the front of a buffer. Gives how many there are, as every writer does.
+pub fn put_bytes(s: &[u8], out: &mut [u8]) -> usize
     requires { ⌜ length (now s) ≤ length (now out) ⌝ }
-    ensures { λ _. ⌜ now (out .exit) ≡ now (s .entry) ++ drop (length (now (s .entry))) (now (out .entry)) ⌝ }
+    ensures { λ r. ⌜ Written (now (s .entry)) (now (out .entry)) (now (out .exit)) r ⌝ }
 {
     for i in 0..s.len() {
         out[i] = s[i];
     }
+    s.len()
+}
+
+// The reason of a call that writes to a lent buffer, and how much was written, or is needed (reason 9).
+pub struct Counted {
+    pub reason: u32,
+    pub count: u32,
 }

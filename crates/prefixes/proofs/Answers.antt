@@ -5,7 +5,7 @@ use mathlib.Core.Option.{none, some}
 use mathlib.Core.Path.{_≡_, refl, sym, ap, subst, _∙_}
 use mathlib.Core.List.{List, _++_}
 use native.Mathlib.Omega.{arith}
-use borrow.Author.Tests.{le-leb, lt-leb, lt-ltb, le-ltb, eq-eqb, ne-eqb, eqb-true}
+use borrow.Author.Tests.{le-leb, lt-leb, eq-eqb, ne-eqb, eqb-true}
 use lib.Dec.{eqb}
 use lib.ListN.{length, take, drop, length-drop}
 use lib.Seq.{take-all, getD-drop}
@@ -17,7 +17,8 @@ use Rattle.address.specs.declared.Words.{Words}
 use Rattle.address.proofs.Digits.{part-is, value-below}
 use Rattle.cidr.specs.Shortest.{Shortest}
 use Rattle.cidr.proofs.Theorem.{shortest}
-use Rattle.prefixes.specs.declared.Prefixed.{Prefixed}
+use Rattle.listing.specs.declared.Counted.{Counted}
+use Rattle.listing.specs.Writing.{ifRoom, counted, countedOf}
 use Rattle.prefixes.specs.Call.{IpRange, entriesOf, ipRange, ipRangeOf, prefixesIn, entriesIn, prefixedOf, bufferAfter}
 use Rattle.prefixes.specs.Answers.{AnswersShortest}
 use Rattle.next_prefix.specs.Walked.{between, walked}
@@ -58,25 +59,18 @@ module _ (s : List ℕ) (width : ℕ) (long : length s ≡ 2 * width) where
     a-range h = rw (first-is, last-is, le-leb (numberOf first) (numberOf last) h)
 
     module _ (out : List ℕ) where
-      pub refused : numberOf last < numberOf first
-          → (record { reason = 6; count = 0 } ≡ prefixedOf (ipRange width s) (length out)) × (out ≡ bufferAfter (ipRange width s) out)
+      pub refused : numberOf last < numberOf first → (counted 6 0 ≡ prefixedOf (ipRange width s) (length out)) × (out ≡ bufferAfter (ipRange width s) out)
       unfolding prefixedOf bufferAfter
       refused h = rw (no-range h) (refl, refl)
 
-      module _ (o : Ordered width first last) where
-        pub full : {n : ℕ} → length out < length (entriesOf width (walked first last)) → n ≡ length (walked first last)
-            → (record { reason = 9; count = n } ≡ prefixedOf (ipRange width s) (length out)) × (out ≡ bufferAfter (ipRange width s) out)
-        unfolding prefixedOf bufferAfter entriesIn prefixesIn
-        full h e = rw (a-range (o .forward), at-width o, lt-ltb (length out) (length (entriesOf width (walked first last))) h, e) (refl, refl)
-
-        pub written : {n : ℕ} {after : List ℕ} → length (entriesOf width (walked first last)) ≤ length out → n ≡ length (walked first last)
-            → after ≡ entriesOf width (walked first last) ++ drop (length (entriesOf width (walked first last))) out
-            → (record { reason = 0; count = n } ≡ prefixedOf (ipRange width s) (length out)) × (after ≡ bufferAfter (ipRange width s) out)
-        unfolding prefixedOf bufferAfter entriesIn prefixesIn
-        written h e f = rw (a-range (o .forward), at-width o, le-ltb (length out) (length (entriesOf width (walked first last))) h, e, f) (refl, refl)
+      pub told : {after : List ℕ} {r : Counted} → Ordered width first last
+          → (r ≡ countedOf (entriesOf width (walked first last)) (length (walked first last)) (length out)) × (after ≡ ifRoom (entriesOf width (walked first last)) out)
+          → (r ≡ prefixedOf (ipRange width s) (length out)) × (after ≡ bufferAfter (ipRange width s) out)
+      unfolding prefixedOf bufferAfter entriesIn prefixesIn
+      told o t = rw (a-range (o .forward), at-width o) t
 
 -- which width a range has
-module _ (s out after : List ℕ) (r : Prefixed) where
+module _ (s out after : List ℕ) (r : Counted) where
   abbrev Given : (width : ℕ) → Type 0
   Given width = (r ≡ prefixedOf (ipRange width s) (length out)) × (after ≡ bufferAfter (ipRange width s) out)
 
@@ -89,7 +83,7 @@ module _ (s out after : List ℕ) (r : Prefixed) where
   sixteen e a = rw (ne-eqb (length s) 8 (λ f. omega arith), eq-eqb (length s) 32 e) a
 
 pub neither : (s out : List ℕ) → (length s ≡ 8 → ⊥) → (length s ≡ 32 → ⊥)
-    → (record { reason = 6; count = 0 } ≡ prefixedOf (ipRangeOf s) (length out)) × (out ≡ bufferAfter (ipRangeOf s) out)
+    → (counted 6 0 ≡ prefixedOf (ipRangeOf s) (length out)) × (out ≡ bufferAfter (ipRangeOf s) out)
 unfolding ipRangeOf prefixedOf bufferAfter
 neither s out e f = rw (ne-eqb (length s) 8 e, ne-eqb (length s) 32 f) (refl, refl)
 

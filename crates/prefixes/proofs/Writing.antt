@@ -1,7 +1,7 @@
 -- Entries written one after another to the front of a buffer: those that are written, and those of the rest of the range, are all.
 use Prim.Native.Nat.{ℕ, suc, _+_, _-_, _*_, _^_, _≤_, _<_}
-use mathlib.Core.Path.{_≡_, refl, sym, ap, subst, _∙_}
-use mathlib.Core.List.{List, [], _∷_, _++_, append-assoc, append-nil}
+use mathlib.Core.Path.{_≡_, refl, ap, _∙_}
+use mathlib.Core.List.{List, [], _∷_}
 use native.Mathlib.Omega.{arith}
 use native.Mathlib.Decide.{decLe, ℕ-discrete}
 use borrow.Rule.Slice.PartMut.{putMid}
@@ -9,7 +9,7 @@ use lib.ListN.{length, take, drop, length-append}
 use lib.Pow.{pow-mono, pow-pos}
 use Rattle.address.specs.Positions.{Wide}
 use Rattle.listing.specs.Writing.{Written}
-use Rattle.listing.proofs.Writing.{written-nothing, written-length, written-both}
+use Rattle.listing.proofs.Writing.{Parted, written-over, over-written, at-start, part-fits, next-part, last-part, at-end}
 use Rattle.cidr.specs.Prefixes.{Prefix, from-to}
 use Rattle.cidr.specs.First.{Largest}
 use Rattle.prefixes.specs.Call.{bigEndian, entryOf, entriesOf}
@@ -34,74 +34,39 @@ length-entries width [] = omega arith
 length-entries width (p ∷ ps) =
     length-append (entryOf width p) (entriesOf width ps) ∙ omega (arith, length-entry width p, length-entries width ps)
 
--- one after another
-pub entries-append : (width : ℕ) (ps qs : List Prefix) → entriesOf width (ps ++ qs) ≡ entriesOf width ps ++ entriesOf width qs
-unfolding entriesOf
-entries-append width [] qs = refl
-entries-append width (p ∷ ps) qs = rw (entries-append width ps qs) (sym (append-assoc (entryOf width p) (entriesOf width ps) (entriesOf width qs)))
-
-one-entry : (width : ℕ) (p : Prefix) → entriesOf width (p ∷ []) ≡ entryOf width p
-unfolding entriesOf
-one-entry width p = append-nil (entryOf width p)
-
 pub nothing-entered : (width : ℕ) (ps : List Prefix) (before : List ℕ) → Entered width ps ps before before 0 0
-unfolding entriesOf
-nothing-entered width ps before = record { done = []; whole = refl; front = written-nothing before; counted = refl }
+nothing-entered width ps before = record { counted = omega arith; reached = at-start (entriesOf width ps) before }
 
-module _ {width at n : ℕ} {all rest : List Prefix} {before after : List ℕ} (g : Entered width all rest before after at n) (room : length (entriesOf width all) ≤ length before) where
-  size : (length (g .done) + length rest) * (width + 1) ≡ length (entriesOf width all)
-  size = sym (length-entries width all ∙ ap (λ (ps : List Prefix). length ps * (width + 1)) (g .whole) ∙ rw (length-append (g .done) rest))
+module _ {width at n : ℕ} {all rest : List Prefix} {before after : List ℕ} (g : Entered width all rest before after at n) {p : Prefix} {left : List Prefix} (known : rest ≡ p ∷ left) where
+  next : Parted (entriesOf width rest) (entryOf width p) (entriesOf width left)
+  unfolding entriesOf
+  next = record { is = rw known }
 
-  place : at ≡ length (g .done) * (width + 1)
-  place = g .front .size ∙ length-entries width (g .done)
+  pub few-entered : n < length all
+  few-entered = omega (arith, g .counted, ap length known)
 
-  pub kept-length : length after ≡ length before
-  kept-length = written-length (g .front) (omega (arith, size, place))
+  pub entry-inside : length (entriesOf width all) ≤ length before → at + (width + 1) ≤ length after
+  entry-inside room = omega (arith, part-fits (g .reached) room next, length-entry width p)
 
-  -- room for the others
-  pub rest-inside : at + length (entriesOf width rest) ≤ length after
-  rest-inside = omega (arith, size, place, length-entries width rest, kept-length)
-
-  -- the next entry
-  module _ {p : Prefix} {left : List Prefix} (known : rest ≡ p ∷ left) where
-    more : length rest ≡ suc (length left)
-    more = ap length known
-
-    pub entry-inside : at + (width + 1) ≤ length after
-    entry-inside = omega (arith, rw more at size, place, kept-length)
-
-    pub few-entered : n < length all
-    few-entered = omega (arith, g .counted, ap length (g .whole) ∙ length-append (g .done) rest, more)
-
-    pub entered : {c : List ℕ} → Written (entryOf width p) (take (length after - at) (drop at after)) c (width + 1)
-        → Entered width all left before (putMid at (length after - at) after c) (at + (width + 1)) (n + 1)
-    entered w = record {
-      done = g .done ++ (p ∷ []);
-      whole = g .whole ∙ rw known (sym (append-assoc (g .done) (p ∷ []) left));
-      front = rw (entries-append width (g .done) (p ∷ []), one-entry width p) (written-both (g .front) w);
-      counted = omega (arith, g .counted, length-append (g .done) (p ∷ []));
-    }
+  pub entered : {c : List ℕ} → Written (entryOf width p) (take (length after - at) (drop at after)) c (width + 1)
+      → Entered width all left before (putMid at (length after - at) after c) (at + (width + 1)) (n + 1)
+  entered w = record { counted = omega (arith, g .counted, ap length known); reached = next-part (g .reached) next w }
 
 -- the first one alone
 pub one-entered : {width : ℕ} {p : Prefix} {rest : List Prefix} {before after : List ℕ} → Written (entryOf width p) before after (width + 1)
     → Entered width (p ∷ rest) rest before after (width + 1) 1
-one-entered {width} {p} w = record { done = p ∷ []; whole = refl; front = rw (one-entry width p) w; counted = refl }
+unfolding entriesOf
+one-entered {width} {p} w = record { counted = omega arith; reached = record { front = entryOf width p; joined = refl; written = w } }
 
 -- none is left
 pub all-entered : {width at n : ℕ} {all : List Prefix} {before after : List ℕ} → Entered width all [] before after at n → Listed width all before after n
-all-entered {width} {at} {n} {all} {before} {after} g =
-    let e : all ≡ g .done = g .whole ∙ append-nil (g .done) in
-    rw e (record { counted = g .counted; front = subst (λ (k : ℕ). Written (entriesOf width (g .done)) before after k) (g .front .size) (g .front) })
+unfolding entriesOf
+all-entered g = record { counted = omega (arith, g .counted); is = written-over (at-end (g .reached)) }
 
 -- the others into the rest of the buffer
 pub both-listed : {width at n m : ℕ} {all rest : List Prefix} {before b c : List ℕ} → Entered width all rest before b at n
     → Listed width rest (take (length b - at) (drop at b)) c m → Listed width all before (putMid at (length b - at) b c) (n + m)
-both-listed {width} {at} {rest = rest} {before = before} {b = b} {c = c} g l =
-    let w = written-both (g .front) (l .front) in
-    rw (g .whole) (record {
-      counted = omega (arith, g .counted, l .counted, length-append (g .done) rest);
-      front = rw (entries-append width (g .done) rest) (subst (λ (k : ℕ). Written (entriesOf width (g .done) ++ entriesOf width rest) before (putMid at (length b - at) b c) k) (w .size) w);
-    })
+both-listed g l = record { counted = omega (arith, g .counted, l .counted); is = written-over (last-part (g .reached) (over-written (l .is))) }
 
 pub at-most-sixteen : {width : ℕ} → Wide width → width ≤ 16
 at-most-sixteen w = by-width w (λ (k : ℕ). k ≤ 16) (omega arith) (omega arith)

@@ -3,11 +3,12 @@ use Prim.Native.Nat.{ℕ, zero, suc, _-_, _*_, _/_, _%_}
 use mathlib.Core.Bool.{cond}
 use mathlib.Core.Option.{Option, none, some}
 use mathlib.Core.List.{List, [], _∷_, _++_}
-use lib.Dec.{eqb, ltb}
-use lib.ListN.{length, drop}
+use lib.Dec.{eqb}
+use lib.ListN.{length}
 use Rattle.address.specs.Ranges.{Range, rangeFrom, wellFormed}
 use Rattle.cidr.specs.Prefixes.{Prefix, prefixesOf}
-use Rattle.prefixes.specs.declared.Prefixed.{Prefixed}
+use Rattle.listing.specs.declared.Counted.{Counted}
+use Rattle.listing.specs.Writing.{ifRoom, counted, countedOf}
 
 -- A range of addresses of so many bytes: 4 for IPv4, 16 for IPv6.
 pub record IpRange : Type 0 where
@@ -42,11 +43,11 @@ unfoldable pub entriesIn : IpRange → List ℕ
 entriesIn a = entriesOf (a .width) (prefixesIn a)
 
 -- No such range is reason 6; too little room is reason 9 with the number of prefixes needed.
-unfoldable pub prefixedOf : Option IpRange → ℕ → Prefixed
-prefixedOf none room = record { reason = 6; count = 0 }
-prefixedOf (some a) room = record { reason = cond (ltb room (length (entriesIn a))) 9 0; count = length (prefixesIn a) }
+unfoldable pub prefixedOf : Option IpRange → ℕ → Counted
+prefixedOf none room = counted 6 0
+prefixedOf (some a) room = countedOf (entriesIn a) (length (prefixesIn a)) room
 
 -- The buffer afterwards: the entries, then what it held there before; after a refusal all that it held.
 unfoldable pub bufferAfter : Option IpRange → List ℕ → List ℕ
 bufferAfter none out = out
-bufferAfter (some a) out = cond (ltb (length out) (length (entriesIn a))) out (entriesIn a ++ drop (length (entriesIn a)) out)
+bufferAfter (some a) out = ifRoom (entriesIn a) out

@@ -9,7 +9,7 @@ use Rattle.address.specs.Positions.{Wide}
 use Rattle.address.specs.Ranges.{Range}
 use Rattle.address.specs.Words.{numberOf}
 use Rattle.address.specs.declared.Words.{Words}
-use Rattle.listing.specs.Writing.{Written}
+use Rattle.listing.specs.Writing.{over, Reached}
 use Rattle.cidr.specs.First.{Capped}
 use Rattle.next_prefix.specs.Walked.{between, walked}
 use Rattle.cidr.specs.Prefixes.{Prefix, from-to, prefixesOf}
@@ -41,14 +41,12 @@ pub record EntryFits (width first free : ℕ) : Type 0 where
 -- all entries are written, and so many they are
 pub record Listed (width : ℕ) (ps : List Prefix) (before after : List ℕ) (n : ℕ) : Type 0 where
   pub counted : n ≡ length ps
-  pub front : Written (entriesOf width ps) before after (length (entriesOf width ps))
+  pub is : after ≡ over (entriesOf width ps) before
 
 -- the first entries are written, n of them in at bytes, and the others are left
 pub record Entered (width : ℕ) (all rest : List Prefix) (before after : List ℕ) (at n : ℕ) : Type 0 where
-  pub done : List Prefix
-  pub whole : all ≡ done ++ rest
-  pub front : Written (entriesOf width done) before after at
-  pub counted : n ≡ length done
+  pub counted : n + length rest ≡ length all
+  pub reached : Reached (entriesOf width all) (entriesOf width rest) before after at
 
 -- the entries left are those for which what remains decides
 pub record Climbed (width : ℕ) (first last : Words) (before after : List ℕ) (r : Stop) : Type 0 where

@@ -3,7 +3,7 @@ use Prim.Native.Nat.{ℕ}
 use mathlib.Core.Path.{_≡_, refl}
 use mathlib.Core.List.{List, [], _∷_, _++_, map}
 use lib.ListN.{length, replicate}
-use Rattle.prefixes.specs.declared.Prefixed.{Prefixed}
+use Rattle.listing.specs.declared.Counted.{Counted}
 use Rattle.prefixes.specs.Call.{ipRangeOf, prefixedOf, bufferAfter}
 use Rattle.prefixes.specs.Computing.{computing}
 
@@ -12,7 +12,7 @@ pub record Case : Type 0 where
   pub range : List ℕ
   pub before : List ℕ
   pub after : List ℕ
-  pub answer : Prefixed
+  pub answer : Counted
 
 abbrev case : List ℕ → (before after : List ℕ) (reason count : ℕ) → Case
 case range before after reason count = record { range = range; before = before; after = after; answer = record { reason = reason; count = count } }

@@ -15,6 +15,7 @@ ghost use Rattle.prefixes.specs.Entries.{Ordered, wordsOf, wordBytes, En
 use address::Words;
 use address::words_at;
 use address::words_at_most;
+use listing::Counted;
 use next_prefix::after;
 use next_prefix::cap;
 use next_prefix::count;
@@ -23,12 +24,6 @@ use next_prefix::last_of;
 use next_prefix::remaining;
 use next_prefix::split_top;
 use next_prefix::trailing_zeros;
-
-// The reason, and how many prefixes there are, or are needed.
-pub struct Prefixed {
-    pub reason: u32,
-    pub count: u32,
-}
 
 // Whether the entries fit in a buffer; if they do not, how many there are.
 enum Fit {
@@ -189,7 +184,7 @@ fn check_room(first: Words, last: Words, width: usize, bytes: usize) -> Fit
 }
 
 // The prefixes of a range whose addresses have so many bytes.
-fn listed(range: &[u8], width: usize, out: &mut [u8]) -> Prefixed
+fn listed(range: &[u8], width: usize, out: &mut [u8]) -> Counted
     requires { ⌜ Wide width × (length (now range) ≡ 2 * width) ⌝ }
     ensures { λ r. ⌜ r ≡ prefixedOf (ipRange width (now (range .entry))) (length (now (out .entry))) ⌝ }
     ensures { λ r. ⌜ now (out .exit) ≡ bufferAfter (ipRange width (now (range .entry))) (now (out .entry)) ⌝ }
@@ -197,17 +192,17 @@ fn listed(range: &[u8], width: usize, out: &mut [u8]) -> Prefixed
     let first = words_at(range, 0, width);
     let last = words_at(range, width, width);
     if !words_at_most(first, last) {
-        return Prefixed {
+        return Counted {
             reason: 6,
             count: 0,
         };
     }
     match check_room(first, last, width, out.len()) {
-        Fit::Short(needed) => Prefixed {
+        Fit::Short(needed) => Counted {
             reason: 9,
             count: needed,
         },
-        Fit::Enough => Prefixed {
+        Fit::Enough => Counted {
             reason: 0,
             count: write(first, last, width, out),
         },
@@ -215,7 +210,7 @@ fn listed(range: &[u8], width: usize, out: &mut [u8]) -> Prefixed
 }
 
 // The prefixes of a range of addresses, first then last, of 4 or 16 bytes each: to the front of the buffer, each as its address and its length.
-pub fn prefixes(range: &[u8], out: &mut [u8]) -> Prefixed
+pub fn prefixes(range: &[u8], out: &mut [u8]) -> Counted
     ensures { λ r. ⌜ r ≡ prefixedOf (ipRangeOf (now (range .entry))) (length (now (out .entry))) ⌝ }
     ensures { λ r. ⌜ now (out .exit) ≡ bufferAfter (ipRangeOf (now (range .entry))) (now (out .entry)) ⌝ }
 {
@@ -226,7 +221,7 @@ pub fn prefixes(range: &[u8], out: &mut [u8]) -> Prefixed
     if n == 32 {
         return listed(range, 16, out);
     }
-    Prefixed {
+    Counted {
         reason: 6,
         count: 0,
     }

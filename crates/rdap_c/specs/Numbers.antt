@@ -1,11 +1,10 @@
 -- What the C functions write: the numbers of a reply (S3.1), of a part of the image, of the prefixes of a range, of a fold, and of the text of an address.
 use Prim.Native.Nat.{ℕ, _-_}
 use mathlib.Core.List.{List, [], _∷_}
+use Rattle.listing.specs.declared.Counted.{Counted}
 use Rattle.records.specs.declared.Span.{Span}
 use Rattle.answers.specs.Reply.{Reply}
-use Rattle.prefixes.specs.declared.Prefixed.{Prefixed}
 use Rattle.changes.specs.Fold.{Folding}
-use Rattle.address_text.specs.declared.Written.{Written}
 
 -- status, reason, kind, relation, count, defect, place
 unfoldable pub numbersOf : Reply → List ℕ
@@ -16,13 +15,9 @@ unfoldable pub partNumbers : Span → List ℕ
 partNumbers span = span .start ∷ (span .end - span .start) ∷ []
 
 -- reason, count
-unfoldable pub prefixedNumbers : Prefixed → List ℕ
-prefixedNumbers a = a .reason ∷ a .count ∷ []
+abbrev pub countedNumbers : Counted → List ℕ
+countedNumbers a = a .reason ∷ a .count ∷ []
 
 -- reason, count, defect, place, offset
 unfoldable pub foldingNumbers : Folding → List ℕ
 foldingNumbers f = f .reason ∷ f .count ∷ f .defect ∷ f .place ∷ f .offset ∷ []
-
--- reason, count
-unfoldable pub writtenNumbers : Written → List ℕ
-writtenNumbers a = a .reason ∷ a .count ∷ []

@@ -11,9 +11,10 @@ ghost use Rattle.prefixes.specs.Call.{ipRangeOf, prefixedOf, bufferAfter};
 ghost use Rattle.changes.specs.Fold.{foldOf};
 ghost use Rattle.fold.specs.Call.{outAfter};
 ghost use Rattle.address_text.specs.Call.{writtenOf, textAfter};
-ghost use Rattle.rdap_c.specs.Numbers.{numbersOf, partNumbers, prefixedNumbers, foldingNumbers, writtenNumbers};
+ghost use Rattle.rdap_c.specs.Numbers.{numbersOf, partNumbers, countedNumbers, foldingNumbers};
 use answers::Answer;
 use image::Which;
+use listing::Counted;
 use query::Relation;
 
 // The numbers of an answer.
@@ -40,6 +41,15 @@ fn part_numbers(image: &[u8], record_number: u32, which: Which) -> [u32; 2]
     let end = span.end;
     let length = end - start;
     [start as u32, length as u32]
+}
+
+// The two numbers of a call that writes to a buffer.
+fn counted_numbers(a: Counted) -> [u32; 2]
+    ensures { λ r. ⌜ r ≡ countedNumbers a ⌝ }
+{
+    let reason = a.reason;
+    let count = a.count;
+    [reason, count]
 }
 
 // Answers a path from an image. Record numbers go to the first places of the list.
@@ -139,13 +149,11 @@ pub extern "C" fn rdap_range(image: &[u8], record_number: u32, part: &mut [u32; 
 // The prefixes of a range of addresses, to the front of the buffer.
 #[no_mangle]
 pub extern "C" fn rdap_prefixes(range: &[u8], out: &mut [u8], reply: &mut [u32; 2])
-    ensures { λ _. ⌜ now (reply .exit) ≡ prefixedNumbers (prefixedOf (ipRangeOf (now (range .entry))) (length (now (out .entry)))) ⌝ }
+    ensures { λ _. ⌜ now (reply .exit) ≡ countedNumbers (prefixedOf (ipRangeOf (now (range .entry))) (length (now (out .entry)))) ⌝ }
     ensures { λ _. ⌜ now (out .exit) ≡ bufferAfter (ipRangeOf (now (range .entry))) (now (out .entry)) ⌝ }
 {
     let a = rdap::prefixes(range, out);
-    let reason = a.reason;
-    let count = a.count;
-    *reply = [reason, count];
+    *reply = counted_numbers(a);
 }
 
 // A change file folded into an image, to the front of the buffer.
@@ -171,11 +179,9 @@ pub extern "C" fn rdap_fold<'a>(
 // The text of an address, to the front of the buffer.
 #[no_mangle]
 pub extern "C" fn rdap_address_text(address: &[u8], text: &mut [u8], reply: &mut [u32; 2])
-    ensures { λ _. ⌜ now (reply .exit) ≡ writtenNumbers (writtenOf (now (address .entry)) (length (now (text .entry)))) ⌝ }
+    ensures { λ _. ⌜ now (reply .exit) ≡ countedNumbers (writtenOf (now (address .entry)) (length (now (text .entry)))) ⌝ }
     ensures { λ _. ⌜ now (text .exit) ≡ textAfter (now (address .entry)) (now (text .entry)) ⌝ }
 {
     let a = rdap::address_text(address, text);
-    let reason = a.reason;
-    let bytes = a.count;
-    *reply = [reason, bytes];
+    *reply = counted_numbers(a);
 }

@@ -5,9 +5,10 @@ use mathlib.Core.Logic.{⊎-elim}
 use native.Mathlib.Omega.{arith}
 use lib.ListN.{length}
 use Rattle.address.specs.Number.{Bytes}
+use Rattle.listing.proofs.Writing.{written-over, all-put, nothing-put}
 use Rattle.ip_text.specs.Text.{textOf}
 use Rattle.ip_text.proofs.Lengths.{text-most, text-most4, text-most16}
-use Rattle.address_text.proofs.Answers.{no-room, all-written}
+use Rattle.address_text.proofs.Answers.{told}
 use borrow.Author.Needs.{needs}
 use Rattle.address_text.proofs.write.Statement.{statement}
 use Rattle.address_text.proofs.write.Tie as tie
@@ -40,7 +41,7 @@ cast-t11 c =
 returns : tie.Need-returns
 returns c =
     let j = c .before .before .before in
-    no-room (address j) (start j .args .text .now) (start j .pre) (omega (arith, c .before .size-of .ensures)) (c .before .size-of .ensures)
+    told (address j) (start j .args .text .now) (start j .pre) (nothing-put (textOf (address j)) (start j .args .text .now) (c .before .size-of .ensures) (omega (arith, c .before .size-of .ensures)))
 
 put-text-requires : tie.Need-put-text-requires
 put-text-requires c κs =
@@ -57,7 +58,8 @@ same-length c = search needs
 returns-2 : tie.Need-returns-2
 returns-2 c =
     let j = c .before .before .before .before .before in
-    all-written (address j) (start j .args .text .now) (start j .pre) (room (c .before .before .before .before)) (c .before .before .put-text .ensures)
+    let w = c .before .before .put-text .ensures in
+    told (address j) (start j .args .text .now) (start j .pre) (all-put (textOf (address j)) (start j .args .text .now) (w .size) (room (c .before .before .before .before)) (written-over w))
 
 pub write-spec : {M : Type 1} → statement M
 write-spec =

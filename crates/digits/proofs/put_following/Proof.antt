@@ -1,29 +1,34 @@
--- After i turns the first i numbers are written.
-use Prim.Native.Nat.{_-_, _≤_}
-use mathlib.Core.Path.{_≡_, refl, _∙_}
+-- What is written so far, followed by the numbers that are left, is the whole.
+use Prim.Native.Nat.{_+_, _-_, _≤_}
+use mathlib.Core.Path.{_≡_, refl}
+use mathlib.Core.List.{[], _∷_}
 use native.Mathlib.Omega.{arith}
-use lib.ListN.{length, take}
-use lib.Seq.{take-length}
+use lib.ListN.{length, drop, getD}
 use Rattle.numeral.specs.Digits.{following}
 use Rattle.digits.specs.Base.{radix}
-use Rattle.listing.specs.Writing.{Written}
-use Rattle.listing.proofs.Writing.{written-nothing, rest-length}
-use Rattle.digits.proofs.Following.{next-written, next-fits}
+use Rattle.listing.specs.Writing.{Reached}
+use Rattle.listing.proofs.Writing.{rest-length, at-start, kept-length, part-fits, next-part, at-end}
+use Rattle.digits.proofs.Following.{next-number, no-number}
 use borrow.Author.Needs.{needs}
 use Rattle.digits.proofs.put_following.Statement.{statement}
 use Rattle.digits.proofs.put_following.Tie as tie
 
 abbrev Inv-loop : tie.InvT-loop
 Inv-loop sep base numbers text₀ at₀ i₀ i-end text at i =
-    (i-end ≡ length numbers) × (i ≤ length numbers) × (length text ≡ length text₀) × Written (following sep (radix base) (take i numbers)) text₀ text at
-    × (length (following sep (radix base) numbers) ≤ length text₀)
+    (i-end ≡ length numbers) × (i ≤ length numbers) × Reached (following sep (radix base) numbers) (following sep (radix base) (drop i numbers)) text₀ text at
 
 abbrev μ-loop : tie.MeasureT-loop
 μ-loop sep base numbers text₀ at₀ i₀ i-end text at i = length numbers - i
 
 loop-holds : tie.Need-loop-holds Inv-loop μ-loop
-unfolding following
-loop-holds c = (refl, omega arith, refl, written-nothing _, search needs)
+loop-holds c = (refl, omega arith, at-start _ _)
+
+-- the next number has room
+fits : (c : tie.In-loop Inv-loop μ-loop) → let l = c .before .loop in let a = c .before .before .before .before .args in
+    l .at + length (following (a .sep) (radix (a .base)) (getD (a .numbers .now) (l .i) 0 ∷ [])) ≤ length (l .text)
+fits c =
+    let start = c .before .before .before .before in
+    part-fits (c .before .loop .inv .2) (start .pre) (next-number (start .args .sep) (radix (start .args .base)) (start .args .numbers .now) (omega arith))
 
 mul-put-next : tie.Need-mul-put-next Inv-loop μ-loop
 mul-put-next c = search needs
@@ -32,31 +37,21 @@ shared-slice-read-put-next : tie.Need-shared-slice-read-put-next Inv-loop μ-loo
 shared-slice-read-put-next c = search needs
 
 sub-put-next : tie.Need-sub-put-next Inv-loop μ-loop
-sub-put-next c =
-    let a = c .before .before .before .before .before .args in
-    let l = c .before .before .loop in
-    omega (arith, l .inv .2, l .inv .3 .size, l .inv .4, next-fits (a .sep) (radix (a .base)) (a .numbers .now) {i = l .i} (search needs))
+sub-put-next c = omega (arith, fits (c .before))
 
 part-put-next-start : tie.Need-part-put-next-start Inv-loop μ-loop
-part-put-next-start c =
-    let a = c .before .before .before .before .before .args in
-    let l = c .before .before .loop in
-    omega (arith, l .inv .2, l .inv .3 .size, l .inv .4, next-fits (a .sep) (radix (a .base)) (a .numbers .now) {i = l .i} (search needs))
+part-put-next-start c = omega (arith, fits (c .before))
 
 part-put-next-end : tie.Need-part-put-next-end Inv-loop μ-loop
 part-put-next-end c = search needs
 
 put-next-requires : tie.Need-put-next-requires Inv-loop μ-loop
-put-next-requires c κs =
-    let a = c .before .before .before .before .before .before .args in
-    let l = c .before .before .before .loop in
-    rw rest-length (omega (arith, l .inv .2, l .inv .3 .size, l .inv .4, next-fits (a .sep) (radix (a .base)) (a .numbers .now) {i = l .i} (search needs)))
+put-next-requires c κs = rw rest-length (omega (arith, fits (c .before .before)))
 
 add-at : tie.Need-add-at Inv-loop μ-loop
 add-at c =
-    let a = c .before .before .before .before .before .before .before .before .before .args in
-    let l = c .before .before .before .before .before .before .loop in
-    omega (arith, l .inv .2, l .inv .3 .size, l .inv .4, c .before .before .put-next .ensures .size, next-fits (a .sep) (radix (a .base)) (a .numbers .now) {i = l .i} (search needs))
+    let l = c .before .before .before .before .before in
+    omega (arith, fits l, kept-length (l .before .loop .inv .2) (l .before .before .before .before .pre), c .before .before .put-next .ensures .size)
 
 add-i : tie.Need-add-i Inv-loop μ-loop
 add-i c = search needs
@@ -68,16 +63,16 @@ loop-again : tie.Need-loop-again Inv-loop μ-loop
 loop-again c =
     let a = c .before .before .before .before .before .before .before .before .before .args in
     let l = c .before .before .before .before .before .before .loop in
-    (refl, omega arith, c .before .text .given .1 ∙ l .inv .2, next-written (a .sep) (radix (a .base)) (a .numbers .now) (omega arith) (l .inv .3) (c .before .before .put-next .ensures), l .inv .4)
+    (refl, omega arith, next-part (l .inv .2) (next-number (a .sep) (radix (a .base)) (a .numbers .now) (omega arith)) (c .before .before .put-next .ensures))
 
 same-length : tie.Need-same-length Inv-loop μ-loop
-same-length c = search needs
+same-length c = kept-length (c .before .loop .inv .2) (c .before .before .before .before .pre)
 
 returns : tie.Need-returns Inv-loop μ-loop
 returns c =
+    let a = c .before .before .before .before .args in
     let l = c .before .loop in
-    let all : l .i ≡ length (c .before .before .before .before .args .numbers .now) = omega arith in
-    rw (all, take-length) at (l .inv .3)
+    at-end (rw (no-number (a .sep) (radix (a .base)) (a .numbers .now) {i = l .i} (omega arith)) at (l .inv .2))
 
 pub put-following-spec : {M : Type 1} → statement M
 put-following-spec =

@@ -6,8 +6,8 @@ use lib.ListN.{replicate, length-replicate}
 use native.Mathlib.Omega.{arith}
 use lib.Seq.{length-take-le}
 use Rattle.address.specs.Number.{Bytes}
+use Rattle.listing.proofs.Writing.{written-front}
 use Rattle.layouts.proofs.Names.{name-length}
-use Rattle.filters.proofs.Writing.{written-front}
 use Rattle.filters.proofs.Networks.{Network, a-network, no-network, is-wide, entries-inside, before-fits, text-is, text-fits, no-room, long-handle, filter-put, nothing-put}
 use borrow.Author.Needs.{needs}
 use Rattle.filters.proofs.put_filter.Statement.{statement}

@@ -6,8 +6,8 @@ use borrow.Author.Needs.{needs}
 use Rattle.filters.proofs.put_row.Statement.{statement}
 use Rattle.filters.proofs.put_row.Tie as tie
 
-put-requires : tie.Need-put-requires
-put-requires c κs =
+put-bytes-requires : tie.Need-put-bytes-requires
+put-bytes-requires c κs =
     let h = simp length-append at (c .before .before .before .before .pre .2) in
     omega arith
 
@@ -66,13 +66,13 @@ same-length : tie.Need-same-length
 same-length c = search needs
 
 returns : tie.Need-returns
-returns c = written-both (written-both (c .before .before .before .before .before .before .before .before .before .before .put .ensures) (c .before .before .before .before .before .before .put-prefix .ensures)) (c .before .before .put-end .ensures)
+returns c = written-both (written-both (c .before .before .before .before .before .before .before .before .before .before .put-bytes .ensures) (c .before .before .before .before .before .before .put-prefix .ensures)) (c .before .before .put-end .ensures)
 
 pub put-row-spec : {M : Type 1} → statement M
 put-row-spec =
     tie.close
     (tie.spec
-    put-requires
+    put-bytes-requires
     sub-put-prefix
     part-put-prefix-start
     part-put-prefix-end

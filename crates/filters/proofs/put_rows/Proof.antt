@@ -1,12 +1,12 @@
 -- What is written so far, followed by the rows of the entries that are left, is the whole.
 use Prim.Native.Nat.{ℕ, _+_, _-_, _*_, _≤_}
-use mathlib.Core.Path.{_≡_, refl, _∙_}
+use mathlib.Core.Path.{_≡_}
 use native.Mathlib.Omega.{arith}
 use mathlib.Core.List.{List}
 use lib.ListN.{length, take, drop, getD}
-use Rattle.listing.proofs.Writing.{rest-length}
+use Rattle.listing.specs.Writing.{Reached}
+use Rattle.listing.proofs.Writing.{rest-length, at-start, kept-length, part-fits, next-part, at-end}
 use Rattle.filters.specs.Rows.{rowText, entryRows}
-use Rattle.filters.proofs.Writing.{Reached, at-start, part-fits, next-part, at-end}
 use Rattle.filters.proofs.Rows.{no-rows, row-next, entry-inside, entry-length}
 use borrow.Author.Needs.{needs}
 use Rattle.filters.proofs.put_rows.Statement.{statement}
@@ -14,7 +14,7 @@ use Rattle.filters.proofs.put_rows.Tie as tie
 
 abbrev Inv-loop : tie.InvT-loop
 Inv-loop style before width count entries out₀ at₀ from₀ left₀ out at from left =
-    (from + left * (width + 1) ≤ length entries) × (length out ≡ length out₀)
+    (from + left * (width + 1) ≤ length entries)
     × Reached (entryRows style before width count entries) (entryRows style before width left (drop from entries)) out₀ out at
 
 abbrev μ-loop : tie.MeasureT-loop
@@ -43,33 +43,32 @@ fits : (c : Place) → c .before .loop .at + length (row c) ≤ length (c .befor
 fits c =
     let l = c .before .loop in
     let a = start c .args in
-    part-fits (l .inv .2) (row-next (a .style) (a .before .now) (a .width) (a .entries .now) (l .from) (l .left) (omega arith)) (omega (arith, start c .pre .3, l .inv .1))
+    part-fits (l .inv .1) (start c .pre .3) (row-next (a .style) (a .before .now) (a .width) (a .entries .now) (l .from) (l .left) (omega arith))
 
 loop-holds : tie.Need-loop-holds Inv-loop μ-loop
-loop-holds c =
-    (omega (arith, c .before .before .before .pre .2), refl, at-start _ _)
+loop-holds c = (omega (arith, c .before .before .before .pre .2), at-start _ _)
 
 sub-left : tie.Need-sub-left Inv-loop μ-loop
 sub-left c = search needs
 
 add-end : tie.Need-add-end Inv-loop μ-loop
 add-end c =
-    let i = inside (c) in
+    let i = inside c in
     omega arith
 
 sub-put-row : tie.Need-sub-put-row Inv-loop μ-loop
 sub-put-row c =
-    let i = inside (c) in
+    let i = inside c in
     omega arith
 
 part-put-row-start : tie.Need-part-put-row-start Inv-loop μ-loop
 part-put-row-start c =
-    let i = inside (c) in
+    let i = inside c in
     omega arith
 
 part-put-row-end : tie.Need-part-put-row-end Inv-loop μ-loop
 part-put-row-end c =
-    let i = inside (c) in
+    let i = inside c in
     omega arith
 
 shared-slice-read-put-row : tie.Need-shared-slice-read-put-row Inv-loop μ-loop
@@ -97,7 +96,8 @@ put-row-requires c κs =
 
 add-at : tie.Need-add-at Inv-loop μ-loop
 add-at c =
-    omega (arith, fits (c .before .before .before .before .before .before), c .before .before .put-row .ensures .size)
+    let l = c .before .before .before .before .before .before in
+    omega (arith, fits l, kept-length (l .before .loop .inv .1) (start l .pre .3), c .before .before .put-row .ensures .size, start l .good)
 
 add-from : tie.Need-add-from Inv-loop μ-loop
 add-from c =
@@ -112,17 +112,17 @@ loop-again c =
     let a = start (c .before .before .before .before .before .before) .args in
     let l = c .before .before .before .before .before .before .before .loop in
     let t = row-next (a .style) (a .before .now) (a .width) (a .entries .now) (l .from) (l .left) (omega arith) in
-    (inside (c .before .before .before .before .before .before), c .before .out .given .1 ∙ l .inv .1, next-part (l .inv .2) t (c .before .before .put-row .ensures))
+    (inside (c .before .before .before .before .before .before), next-part (l .inv .1) t (c .before .before .put-row .ensures))
 
 same-length : tie.Need-same-length Inv-loop μ-loop
-same-length c = c .before .loop .inv .1
+same-length c = kept-length (c .before .loop .inv .1) (c .before .before .before .before .before .pre .3)
 
 returns : tie.Need-returns Inv-loop μ-loop
 returns c =
     let l = c .before .loop in
     let a = c .before .before .before .before .before .args in
     let e : l .left ≡ 0 = omega arith in
-    at-end (rw (e, no-rows (a .style) (a .before .now) (a .width) (drop (l .from) (a .entries .now))) at (l .inv .2))
+    at-end (rw (e, no-rows (a .style) (a .before .now) (a .width) (drop (l .from) (a .entries .now))) at (l .inv .1))
 
 pub put-rows-spec : {M : Type 1} → statement M
 put-rows-spec =

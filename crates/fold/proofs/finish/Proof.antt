@@ -98,8 +98,7 @@ returns-3 c =
     let a = v .before .before .before .before .before in
     let z = image-size (now (a .args .image)) (entriesAt (now (a .args .image)) (now (a .args .changes)) (take (a .args .n) (now (a .args .index)))) (a .pre .3) _ (v .before .size-of .ensures .0) in
     let l = length-take-le 4 (now (a .args .image)) (start-length (now (a .args .image)) (a .pre .3)) in
-    let f : Written (take 4 (now (a .args .image))) (now (a .args .out)) _ 4 =
-    record { size = sym l; is = b .put-bytes .ensures ∙ ap (λ (m : ℕ). take 4 (now (a .args .image)) ++ drop m (now (a .args .out))) l } in
+    let f = rw (b .put-bytes .ensures .size ∙ l) at (b .put-bytes .ensures) in
     finish-written _ _ _ (v .final-verdict .ensures) _ (t .enum-told .given .1) _ z _ (e .if1 .left) _ _ (written-both f (p .put-records .ensures)) (c .counted2 .ensures)
 
 pub finish-spec : {M : Type 1} → statement M

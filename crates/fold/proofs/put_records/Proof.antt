@@ -1,28 +1,27 @@
--- The first i records are written.
+-- What is written so far, followed by the records that are left, is the whole.
 use borrow.Author.Needs.{needs}
-use mathlib.Core.Path.{_≡_, ap}
 use Prim.Native.Nat.{_+_, _-_, _≤_}
 use native.Mathlib.Omega.{arith}
-use lib.ListN.{length, getD, take, length-append}
+use lib.ListN.{length, getD, take, drop}
+use mathlib.Core.Path.{ap}
 use denote.Ref.{now}
 use Rattle.rows.specs.Entry.{rowOf}
 use Rattle.merged.specs.Held.{bytesAt, entriesAt}
-use Rattle.merged.proofs.Rows.{row-next, row-rises}
-use Rattle.listing.specs.Writing.{Written}
-use Rattle.listing.proofs.Writing.{written-nothing, written-length, rest-length}
-use Rattle.fold.proofs.Finals.{put-next}
+use Rattle.listing.specs.Writing.{Reached}
+use Rattle.listing.proofs.Writing.{Parted, rest-length, at-start, kept-length, part-fits, next-part, at-end}
+use Rattle.fold.proofs.Finals.{next-record, no-record}
 use Rattle.fold.proofs.put_records.Statement.{statement}
 use Rattle.fold.proofs.put_records.Tie as tie
 
 abbrev Inv-loop : tie.InvT-loop
-Inv-loop image changes index n out₀ at₀ i₀ out at i = (i ≤ n) × Written (rowOf (entriesAt image changes (take i index))) out₀ out at
+Inv-loop image changes index n out₀ at₀ i₀ out at i =
+    (i ≤ n) × Reached (rowOf (entriesAt image changes (take n index))) (rowOf (entriesAt image changes (drop i (take n index)))) out₀ out at
 
 abbrev μ-loop : tie.MeasureT-loop
 μ-loop image changes index n out₀ at₀ i₀ out at i = n - i
 
 loop-holds : tie.Need-loop-holds Inv-loop μ-loop
-unfolding rowOf
-loop-holds c = (omega arith, written-nothing _)
+loop-holds c = (omega arith, at-start _ _)
 
 mul-record-at : tie.Need-mul-record-at Inv-loop μ-loop
 mul-record-at c = search needs
@@ -33,30 +32,19 @@ element-copy-out-record-at c = omega (arith, c .loop-test .taken, c .before .bef
 record-at-requires : tie.Need-record-at-requires Inv-loop μ-loop
 record-at-requires c κs = search needs
 
-lower : (c : tie.In-loop Inv-loop μ-loop) → length (rowOf (entriesAt (now (c .before .before .before .before .before .args .image)) (now (c .before .before .before .before .before .args .changes)) (take (c .before .loop .i) (now (c .before .before .before .before .before .args .index))))) ≤ length (now (c .before .before .before .before .before .args .out))
-lower c =
-    let a = c .before .before .before .before .before in
-    omega (arith, a .pre .2, row-rises (now (a .args .image)) (now (a .args .changes)) (now (a .args .index)) (c .before .loop .i) (a .args .n) (c .before .loop .inv .0))
+abbrev start : tie.In-loop Inv-loop μ-loop → tie.Start Inv-loop μ-loop
+start c = c .before .before .before .before .before
 
-all : (c : tie.In-loop Inv-loop μ-loop) → length (c .before .loop .out) ≡ length (now (c .before .before .before .before .before .args .out))
-all c = written-length (c .before .loop .inv .1) (omega (arith, lower c, c .before .loop .inv .1 .size))
+-- the next record
+next : (c : tie.In-loop Inv-loop μ-loop) → let l = c .before .loop in let a = start c .args in
+    Parted (rowOf (entriesAt (now (a .image)) (now (a .changes)) (drop (l .i) (take (a .n) (now (a .index)))))) (bytesAt (now (a .image)) (now (a .changes)) (getD (now (a .index)) (l .i) 0))
+    (rowOf (entriesAt (now (a .image)) (now (a .changes)) (drop (l .i + 1) (take (a .n) (now (a .index))))))
+next c = let a = start c .args in next-record (now (a .image)) (now (a .changes)) (now (a .index)) (a .n) (omega (arith, start c .pre .0, start c .pre .1)) (c .loop-test .taken)
 
 room : (c : tie.After-record-at Inv-loop μ-loop) → c .before .before .before .loop .at + length (now (c .record-at .result)) ≤ length (c .before .before .before .loop .out)
 room c =
     let i = c .before .before in
-    let l = i .before .loop in
-    let a = i .before .before .before .before .before in
-    let e = row-next (now (a .args .image)) (now (a .args .changes)) (now (a .args .index)) (l .i) (omega (arith, i .loop-test .taken, a .pre .0, a .pre .1)) in
-    omega (
-      arith,
-      a .pre .2,
-      row-rises (now (a .args .image)) (now (a .args .changes)) (now (a .args .index)) (l .i + 1) (a .args .n) (omega (arith, i .loop-test .taken)),
-      ap length e,
-      length-append (rowOf (entriesAt (now (a .args .image)) (now (a .args .changes)) (take (l .i) (now (a .args .index))))) (bytesAt (now (a .args .image)) (now (a .args .changes)) (getD (now (a .args .index)) (l .i) 0)),
-      ap length (c .record-at .ensures),
-      l .inv .1 .size,
-      all i,
-    )
+    omega (arith, part-fits (i .before .loop .inv .1) (start i .pre .2) (next i), ap length (c .record-at .ensures))
 
 sub-put-bytes : tie.Need-sub-put-bytes Inv-loop μ-loop
 sub-put-bytes c = omega (arith, room c)
@@ -68,12 +56,13 @@ part-put-bytes-end : tie.Need-part-put-bytes-end Inv-loop μ-loop
 part-put-bytes-end c = search needs
 
 put-bytes-requires : tie.Need-put-bytes-requires Inv-loop μ-loop
-put-bytes-requires c κs =
-    let b = c .before in
-    omega (arith, room b, rest-length (b .before .before .before .loop .out) (b .before .before .before .loop .at))
+put-bytes-requires c κs = rw rest-length (omega (arith, room (c .before)))
 
 add-at : tie.Need-add-at Inv-loop μ-loop
-add-at c = omega (arith, room (c .before .before .before .before), all (c .before .before .before .before .before .before))
+add-at c =
+    let b = c .before .before .before .before in
+    let i = b .before .before in
+    omega (arith, room b, kept-length (i .before .loop .inv .1) (start i .pre .2), c .before .before .put-bytes .ensures .size, start i .good)
 
 add-i : tie.Need-add-i Inv-loop μ-loop
 add-i c = search needs
@@ -85,25 +74,16 @@ loop-again : tie.Need-loop-again Inv-loop μ-loop
 loop-again c =
     let b = c .before .before .before .before in
     let i = b .before .before in
-    let l = i .before .loop in
-    let a = i .before .before .before .before .before in
-    let e = row-next (now (a .args .image)) (now (a .args .changes)) (now (a .args .index)) (l .i) (omega (arith, i .loop-test .taken, a .pre .0, a .pre .1)) in (
-      omega (arith, i .loop-test .taken),
-      put-next (l .inv .1) (b .record-at .ensures) e (c .before .before .put-bytes .ensures),
-    )
+    (omega (arith, i .loop-test .taken), next-part (i .before .loop .inv .1) (next i) (rw (b .record-at .ensures) at (c .before .before .put-bytes .ensures)))
 
 same-length : tie.Need-same-length Inv-loop μ-loop
-same-length c =
-    let i = c .before in
-    let a = i .before .before .before .before in
-    written-length (i .loop .inv .1) (omega (arith, i .loop .inv .1 .size, a .pre .2, row-rises (now (a .args .image)) (now (a .args .changes)) (now (a .args .index)) (i .loop .i) (a .args .n) (i .loop .inv .0)))
+same-length c = kept-length (c .before .loop .inv .1) (c .before .before .before .before .before .pre .2)
 
 returns : tie.Need-returns Inv-loop μ-loop
 returns c =
     let l = c .before .loop in
     let a = c .before .before .before .before .before in
-    let e : l .i ≡ a .args .n = omega (arith, l .inv .0, c .loop-test .left) in
-    rw e at (l .inv .1)
+    at-end (rw (no-record (now (a .args .image)) (now (a .args .changes)) (now (a .args .index)) (a .args .n) (omega (arith, a .pre .0, a .pre .1)) {i = l .i} (c .loop-test .left)) at (l .inv .1))
 
 pub put-records-spec : {M : Type 1} → statement M
 put-records-spec =

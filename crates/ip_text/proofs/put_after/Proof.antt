@@ -1,5 +1,5 @@
 -- The given bytes, and the numbers in the rest of the buffer after them.
-use Rattle.listing.proofs.Writing.{written-bytes, written-both}
+use Rattle.listing.proofs.Writing.{written-both}
 use borrow.Author.Needs.{needs}
 use Rattle.ip_text.proofs.put_after.Statement.{statement}
 use Rattle.ip_text.proofs.put_after.Tie as tie
@@ -28,9 +28,7 @@ same-length : tie.Need-same-length
 same-length c = search needs
 
 returns : tie.Need-returns
-returns c =
-    let front = c .before .before .before .before .before .before .before .before .before .before .before .args .front .now in
-    written-both (written-bytes front (c .before .before .before .before .before .before .put-bytes .ensures)) (c .before .before .put-spelled .ensures)
+returns c = written-both (c .before .before .before .before .before .before .put-bytes .ensures) (c .before .before .put-spelled .ensures)
 
 pub put-after-spec : {M : Type 1} → statement M
 put-after-spec =

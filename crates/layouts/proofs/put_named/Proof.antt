@@ -11,21 +11,21 @@ put-fixed-requires c κs =
     let h = simp length-append at (c .before .before .before .pre .1) in
     (omega arith, omega arith)
 
-sub-put : tie.Need-sub-put
-sub-put c =
+sub-put-bytes : tie.Need-sub-put-bytes
+sub-put-bytes c =
     let h = simp length-append at (c .before .before .before .before .before .before .pre .1) in
     omega arith
 
-part-put-start : tie.Need-part-put-start
-part-put-start c =
+part-put-bytes-start : tie.Need-part-put-bytes-start
+part-put-bytes-start c =
     let h = simp length-append at (c .before .before .before .before .before .before .pre .1) in
     omega arith
 
-part-put-end : tie.Need-part-put-end
-part-put-end c = search needs
+part-put-bytes-end : tie.Need-part-put-bytes-end
+part-put-bytes-end c = search needs
 
-put-requires : tie.Need-put-requires
-put-requires c κs =
+put-bytes-requires : tie.Need-put-bytes-requires
+put-bytes-requires c κs =
     let h = simp length-append at (c .before .before .before .before .before .before .before .pre .1) in
     rw rest-length (omega arith)
 
@@ -64,17 +64,17 @@ same-length : tie.Need-same-length
 same-length c = search needs
 
 returns : tie.Need-returns
-returns c = written-both (written-both (c .before .before .before .before .before .before .before .before .before .before .put-fixed .ensures) (c .before .before .before .before .before .before .put .ensures)) (c .before .before .put-fixed2 .ensures)
+returns c = written-both (written-both (c .before .before .before .before .before .before .before .before .before .before .put-fixed .ensures) (c .before .before .before .before .before .before .put-bytes .ensures)) (c .before .before .put-fixed2 .ensures)
 
 pub put-named-spec : {M : Type 1} → statement M
 put-named-spec =
     tie.close
     (tie.spec
     put-fixed-requires
-    sub-put
-    part-put-start
-    part-put-end
-    put-requires
+    sub-put-bytes
+    part-put-bytes-start
+    part-put-bytes-end
+    put-bytes-requires
     add-at
     add-put-fixed
     sub-put-fixed

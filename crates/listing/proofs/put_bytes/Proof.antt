@@ -48,7 +48,7 @@ returns : tie.Need-returns Inv-loop μ-loop
 returns c =
     let l = c .before .loop in
     let e : l .i ≡ length (c .before .before .args .s .now) = omega arith in
-    l .inv .3 ∙ rw (e, take-length)
+    record { size = refl; is = l .inv .3 ∙ rw (e, take-length) }
 
 pub put-bytes-spec : {M : Type 1} → statement M
 put-bytes-spec =

@@ -8,7 +8,7 @@ use borrow.Author.Tests.{leb-true, leb-false}
 use lib.ListN.{length}
 use denote.Ref.{now}
 use Rattle.address.specs.Words.{numberOf}
-use Rattle.listing.proofs.Writing.{rest-length}
+use Rattle.listing.proofs.Writing.{rest-length, kept-length}
 use Rattle.cidr.specs.Prefixes.{prefix, from-to, prefixesOf}
 use Rattle.cidr.specs.First.{Largest}
 use Rattle.cidr.proofs.Greedy.{first-prefix}
@@ -17,7 +17,7 @@ use Rattle.cidr.proofs.Theorem.{at-most-254}
 use Rattle.next_prefix.specs.Walked.{between, walked}
 use Rattle.prefixes.specs.Entries.{Entered}
 use Rattle.next_prefix.proofs.Walk as walk
-use Rattle.prefixes.proofs.Writing.{nothing-entered, kept-length, entry-inside, few-entered, entered, entry-fits}
+use Rattle.prefixes.proofs.Writing.{nothing-entered, entry-inside, few-entered, entered, entry-fits}
 use borrow.Author.Needs.{needs}
 use Rattle.prefixes.proofs.climb.Statement.{statement}
 use Rattle.prefixes.proofs.climb.Tie as tie
@@ -48,7 +48,7 @@ words-at-most-requires : tie.Need-words-at-most-requires Inv-loop μ-loop
 words-at-most-requires c κs = tt
 
 same-length : tie.Need-same-length Inv-loop μ-loop
-same-length c = let turn = c .before .before .before .before in kept-length (turn .loop .inv .1) (turn .before .before .pre .1)
+same-length c = let turn = c .before .before .before .before in kept-length (turn .loop .inv .1 .reached) (turn .before .before .pre .1)
 
 returns : tie.Need-returns Inv-loop μ-loop
 returns c =
@@ -80,10 +80,10 @@ module _ (c : tie.Else1 Inv-loop μ-loop) where
   known = first-prefix 128 (between (turn .before .loop .start) (start .args .last)) (turn .trailing-zeros .result) (below start) largest
 
   inside : turn .before .loop .at + (start .args .width + 1) ≤ length (turn .before .loop .out)
-  inside = entry-inside (turn .before .loop .inv .1) (start .pre .1) known
+  inside = entry-inside (turn .before .loop .inv .1) known (start .pre .1)
 
   fits : turn .before .loop .at + (start .args .width + 1) < 18446744073709551616
-  fits = omega (arith, inside, kept-length (turn .before .loop .inv .1) (start .pre .1), start .good)
+  fits = omega (arith, inside, kept-length (turn .before .loop .inv .1 .reached) (start .pre .1), start .good)
 
 sub-put-entry : tie.Need-sub-put-entry Inv-loop μ-loop
 sub-put-entry c = omega (arith, inside c)
@@ -128,13 +128,13 @@ add-at-2 c = omega (arith, fits (entry c))
 add-n : tie.Need-add-n Inv-loop μ-loop
 add-n c =
     let s = start (entry c) in
-    omega (arith, few-entered (turn (entry c) .before .loop .inv .1) (s .pre .1) (more c), at-most-254 (between (s .args .first) (s .args .last)) (below s))
+    omega (arith, few-entered (turn (entry c) .before .loop .inv .1) (more c), at-most-254 (between (s .args .first) (s .args .last)) (below s))
 
 loop-less : tie.Need-loop-less Inv-loop μ-loop
 loop-less c = walk.falls 128 (below (start (entry c))) (largest (entry c)) (c .after .ensures) (forward c)
 
 loop-again : tie.Need-loop-again Inv-loop μ-loop
-loop-again c = (forward c, entered (turn (entry c) .before .loop .inv .1) (start (entry c) .pre .1) (more c) (c .before .before .before .put-entry .ensures))
+loop-again c = (forward c, entered (turn (entry c) .before .loop .inv .1) (more c) (c .before .before .before .put-entry .ensures))
 
 pub climb-spec : {M : Type 1} → statement M
 climb-spec =

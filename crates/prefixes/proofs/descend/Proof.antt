@@ -7,7 +7,7 @@ use borrow.Author.Tests.{leb-true, leb-false}
 use lib.ListN.{length}
 use denote.Ref.{now}
 use Rattle.address.specs.Words.{numberOf}
-use Rattle.listing.proofs.Writing.{rest-length}
+use Rattle.listing.proofs.Writing.{rest-length, kept-length, rest-fits}
 use Rattle.cidr.specs.Prefixes.{prefix, from-to, prefixesOf}
 use Rattle.cidr.specs.First.{Largest}
 use Rattle.cidr.proofs.Multiples.{sum, itself, of-remainder, to-remainder}
@@ -17,7 +17,7 @@ use Rattle.next_prefix.specs.Walked.{between, walked}
 use Rattle.prefixes.specs.Entries.{fallen, Falling, Entered}
 use Rattle.next_prefix.proofs.Walk as walk
 use Rattle.prefixes.proofs.Falling.{same-last, positive-after, below-after, few-after}
-use Rattle.prefixes.proofs.Writing.{at-most-sixteen, nothing-entered, kept-length, rest-inside, entry-inside, one-entered, all-entered, both-listed, entry-fits}
+use Rattle.prefixes.proofs.Writing.{at-most-sixteen, nothing-entered, entry-inside, one-entered, all-entered, both-listed, entry-fits}
 use Rattle.prefixes.proofs.Room.{few}
 use borrow.Author.Needs.{needs}
 use Rattle.prefixes.proofs.descend.Statement.{statement}
@@ -39,7 +39,7 @@ module _ (c : tie.After-cap) where
   known = first-prefix 128 (between (start .args .first) (start .args .last)) (c .cap .result) (below start) largest
 
   roomy : start .args .width + 1 ≤ length (now (start .args .out))
-  roomy = omega (arith, entry-inside (nothing-entered (start .args .width) (walked (start .args .first) (start .args .last)) (now (start .args .out))) (start .pre .2) known)
+  roomy = omega (arith, entry-inside (nothing-entered (start .args .width) (walked (start .args .first) (start .args .last)) (now (start .args .out))) known (start .pre .2))
 
 remaining-requires : tie.Need-remaining-requires
 remaining-requires c κs = search needs
@@ -114,10 +114,10 @@ add-fall : tie.Need-add-fall
 add-fall c = omega (arith, roomy (capped c), start (capped c) .good)
 
 sub-fall : tie.Need-sub-fall
-sub-fall c = omega (arith, roomy (capped c), kept-length (first-entered c) (start (capped c) .pre .2))
+sub-fall c = omega (arith, roomy (capped c), kept-length (first-entered c .reached) (start (capped c) .pre .2))
 
 part-fall-start : tie.Need-part-fall-start
-part-fall-start c = omega (arith, roomy (capped c), kept-length (first-entered c) (start (capped c) .pre .2))
+part-fall-start c = omega (arith, roomy (capped c), kept-length (first-entered c .reached) (start (capped c) .pre .2))
 
 part-fall-end : tie.Need-part-fall-end
 part-fall-end c = search needs
@@ -125,7 +125,7 @@ part-fall-end c = search needs
 fall-requires : tie.Need-fall-requires
 fall-requires c κs =
     let next = c .before in
-    (falling next, omega (arith, rest-inside (first-entered next) (start (capped next) .pre .2), rest-length (next .before .before .before .before .before .before .before .put-entry .last .1 .1 .1 .0) (start (capped next) .args .width + 1)))
+    (falling next, omega (arith, rest-fits (first-entered next .reached) (start (capped next) .pre .2), rest-length (next .before .before .before .before .before .before .before .put-entry .last .1 .1 .1 .0) (start (capped next) .args .width + 1)))
 
 add-result : tie.Need-add-result
 add-result c =

@@ -8,12 +8,12 @@ use lib.ListN.{length}
 use lib.Pow.{pow-pos}
 use denote.Ref.{now}
 use Rattle.address.specs.Words.{numberOf}
-use Rattle.listing.proofs.Writing.{rest-length}
+use Rattle.listing.proofs.Writing.{rest-length, kept-length}
 use Rattle.cidr.specs.Prefixes.{Prefix, prefix, from-to, prefixesOf}
 use Rattle.cidr.proofs.Greedy.{first-prefix}
 use Rattle.prefixes.specs.Entries.{fallen, Falling, Entered}
 use Rattle.prefixes.proofs.Falling as falling
-use Rattle.prefixes.proofs.Writing.{nothing-entered, kept-length, entry-inside, few-entered, entered, all-entered}
+use Rattle.prefixes.proofs.Writing.{nothing-entered, entry-inside, few-entered, entered, all-entered}
 use borrow.Author.Needs.{needs}
 use Rattle.prefixes.proofs.fall.Statement.{statement}
 use Rattle.prefixes.proofs.fall.Tie as tie
@@ -52,10 +52,10 @@ module _ (c : tie.After-split-top Inv-loop μ-loop) where
       (falling.last-below (turn .loop .inv .0) (c .split-top .ensures .0)) (falling.largest (turn .loop .inv .0) (c .split-top .ensures .0))
 
   inside : turn .loop .at + (begin .args .width + 1) ≤ length (turn .loop .out)
-  inside = entry-inside (turn .loop .inv .1) (begin .pre .1) known
+  inside = entry-inside (turn .loop .inv .1) known (begin .pre .1)
 
   fits : turn .loop .at + (begin .args .width + 1) < 18446744073709551616
-  fits = omega (arith, inside, kept-length (turn .loop .inv .1) (begin .pre .1), begin .good)
+  fits = omega (arith, inside, kept-length (turn .loop .inv .1 .reached) (begin .pre .1), begin .good)
 
 sub-put-entry : tie.Need-sub-put-entry Inv-loop μ-loop
 sub-put-entry c = omega (arith, inside c)
@@ -98,7 +98,7 @@ add-n : tie.Need-add-n Inv-loop μ-loop
 add-n c =
     let s = split (c .before) in
     let all = turn s .loop .inv .1 in
-    omega (arith, few-entered all (begin s .pre .1) (more (c .before)), falling.few (begin s .pre .0))
+    omega (arith, few-entered all (more (c .before)), falling.few (begin s .pre .0))
 
 loop-less : tie.Need-loop-less Inv-loop μ-loop
 loop-less c =
@@ -110,11 +110,11 @@ loop-again c =
     let s = split (c .before) in
     let loop = turn s .loop in (
       falling.still (loop .inv .0) (s .split-top .ensures .0) (c .before .after .result) (s .split-top .result .rest) (c .before .after .ensures) (s .split-top .ensures .1),
-      entered (loop .inv .1) (begin s .pre .1) (more (c .before)) (c .before .before .before .before .put-entry .ensures),
+      entered (loop .inv .1) (more (c .before)) (c .before .before .before .before .put-entry .ensures),
     )
 
 same-length : tie.Need-same-length Inv-loop μ-loop
-same-length c = let turn = c .before .before in kept-length (turn .loop .inv .1) (turn .before .before .pre .1)
+same-length c = let turn = c .before .before in kept-length (turn .loop .inv .1 .reached) (turn .before .before .pre .1)
 
 returns : tie.Need-returns Inv-loop μ-loop
 returns c =

@@ -1,14 +1,18 @@
 -- The answers are those of Answers.antt: no range, too little room, written.
-use Prim.Native.Nat.{_≤_}
+use Prim.Native.Nat.{ℕ, _≤_}
+use mathlib.Core.List.{List}
 use mathlib.Core.Path.{sym, _∙_}
 use borrow.Author.Tests.{leb-true, leb-false, not-true, not-false}
 use denote.Ref.{now}
 use Rattle.address.specs.Number.{Bytes}
 use Rattle.address.specs.Words.{numberOf}
 use Rattle.address.specs.declared.Words.{Words}
+use Rattle.listing.proofs.Writing.{all-put, nothing-put}
+use Rattle.next_prefix.specs.Walked.{walked}
+use Rattle.prefixes.specs.Call.{entriesOf}
 use Rattle.prefixes.specs.Entries.{Ordered}
 use Rattle.prefixes.proofs.Room.{told-short, told-enough}
-use Rattle.prefixes.proofs.Answers.{ordered, refused, full, written}
+use Rattle.prefixes.proofs.Answers.{ordered, refused, told}
 use borrow.Author.Needs.{needs}
 use Rattle.prefixes.proofs.listed.Statement.{statement}
 use Rattle.prefixes.proofs.listed.Tie as tie
@@ -23,6 +27,9 @@ module _ (c : tie.After-words-at2) where
 
   abbrev last : Words
   last = c .words-at2 .result
+
+  abbrev entries : List ℕ
+  entries = entriesOf (start .args .width) (walked first last)
 
   bytes : Bytes (now (start .args .range))
   bytes i h = c .before .before .before .shared-slice-known .given i .fits
@@ -66,9 +73,9 @@ returns-2 : tie.Need-returns-2
 returns-2 c =
     let room = c .before .before .before in
     let read = room .before .before .before in
-    let told = told-short _ _ _ (sym (c .before .needed .given .1) ∙ room .check-room .ensures) in
-    full (now (start read .args .range)) (start read .args .width) (start read .pre .1) (first read) (last read) (read .before .words-at .ensures) (read .words-at2 .ensures)
-    _ (forward (room .before)) (told .0) (told .1)
+    let short = told-short _ _ _ (sym (c .before .needed .given .1) ∙ room .check-room .ensures) in
+    told (now (start read .args .range)) (start read .args .width) (start read .pre .1) (first read) (last read) (read .before .words-at .ensures) (read .words-at2 .ensures)
+    _ (forward (room .before)) (nothing-put (entries read) (now (start read .args .out)) (short .1) (short .0))
 
 same-length : tie.Need-same-length
 same-length c = search needs
@@ -78,8 +85,8 @@ returns-3 c =
     let room = c .before .before .before .before .before .before in
     let read = room .before .before .before in
     let done = c .before .before .write .ensures in
-    written (now (start read .args .range)) (start read .args .width) (start read .pre .1) (first read) (last read) (read .before .words-at .ensures) (read .words-at2 .ensures)
-    _ (forward (room .before)) (told-enough _ _ _ (sym (c .before .before .before .before .enum-told .given .1) ∙ room .check-room .ensures)) (done .counted) (done .front .is)
+    told (now (start read .args .range)) (start read .args .width) (start read .pre .1) (first read) (last read) (read .before .words-at .ensures) (read .words-at2 .ensures)
+    _ (forward (room .before)) (all-put (entries read) (now (start read .args .out)) (done .counted) (told-enough _ _ _ (sym (c .before .before .before .before .enum-told .given .1) ∙ room .check-room .ensures)) (done .is))
 
 pub listed-spec : {M : Type 1} → statement M
 listed-spec =

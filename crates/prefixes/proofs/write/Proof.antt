@@ -2,10 +2,10 @@
 use Prim.Native.Nat.{_+_, _≤_}
 use native.Mathlib.Omega.{arith}
 use lib.ListN.{length}
-use Rattle.listing.proofs.Writing.{rest-length}
+use Rattle.listing.proofs.Writing.{rest-length, rest-fits}
 use Rattle.prefixes.specs.Call.{entriesOf}
 use Rattle.next_prefix.specs.Walked.{walked}
-use Rattle.prefixes.proofs.Writing.{at-most-sixteen, rest-inside, both-listed}
+use Rattle.prefixes.proofs.Writing.{at-most-sixteen, both-listed}
 use Rattle.prefixes.proofs.Room.{few}
 use borrow.Author.Needs.{needs}
 use Rattle.prefixes.proofs.write.Statement.{statement}
@@ -17,7 +17,7 @@ module _ (c : tie.After-climb) where
   start = c .before .before .before
 
   inside : c .climb .result .at + length (entriesOf (start .args .width) (walked (c .climb .result .start) (start .args .last))) ≤ length (c .climb .last .1 .1 .1 .0)
-  inside = rest-inside (c .climb .ensures .entered) (start .pre .1)
+  inside = rest-fits (c .climb .ensures .entered .reached) (start .pre .1)
 
 climb-requires : tie.Need-climb-requires
 climb-requires c κs = search needs

@@ -9,7 +9,7 @@ use Rattle.pieces.specs.Split.{split}
 use Rattle.numeral.specs.Numeral.{digitValue, digitsFrom}
 use Rattle.numeral.proofs.Spelled.{split-spelled, values-read}
 use Rattle.answers.specs.Reply.{Reply, line}
-use Rattle.lines.specs.Line.{spaced, lineText, numbersIn}
+use Rattle.line_text.specs.Line.{spaced, lineText, numbersIn}
 
 pub line-read : (r : Reply) → numbersIn (lineText r) ≡ line r
 unfolding numbersIn lineText line digitValue
