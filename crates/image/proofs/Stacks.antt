@@ -18,13 +18,13 @@ use Rattle.records.specs.Layout.{recordOn, LaidOut}
 use Rattle.records.specs.declared.Layout.{Layout}
 use Rattle.records.proofs.Shapes.{a-block, no-block}
 use Rattle.records.proofs.Accepted.{After}
+use Rattle.records.proofs.Contents.{ranged, range-on}
 use Rattle.image.specs.Place.{Opened, nestOf}
 use Rattle.image.specs.declared.Place.{Place}
 use Rattle.image.specs.declared.Place.the-variants.{Under, Bad}
 use Rattle.image.proofs.Addresses.{low-family}
 use Rattle.image.specs.Open.{openAt, stillOpen, sticksOut}
 use Rattle.image.proofs.Laminar.{Chain, open-lasts, open-chain, open-same, open-test, open-above, other-tag, no-crossing}
-use Rattle.image.proofs.Placing.{ranged, range-on}
 use Rattle.image.proofs.Nests.{openLasts, NestedIn, nested}
 
 -- the record before has the tag `before` and starts at `bound`

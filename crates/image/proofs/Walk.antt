@@ -18,14 +18,14 @@ use Rattle.records.specs.Layout.{layoutOf, recordOn, LaidOut}
 use Rattle.records.specs.declared.Layout.{Layout}
 use Rattle.records.proofs.Accepted.{first-last, After, follows-after}
 use Rattle.image.specs.Image.{Image, sound, defective, refused, taken, afterJudged, nextOf, afterNext, imageFrom, startsRight}
-use Rattle.image.specs.Place.{TakenAt, ReadAt, recordBefore, Coming, goodBlock, nestOn, placeOn, verdictOf}
+use Rattle.image.specs.Place.{TakenAt, ReadAt, recordBefore, Coming, nestOn, placeOn, verdictOf}
 use Rattle.image.specs.declared.Reading.{Reading}
 use Rattle.image.specs.declared.Reading.the-variants.{Taken, Refused}
 use Rattle.image.specs.declared.Place.{Place}
 use Rattle.image.specs.declared.Place.the-variants.{Under, Bad}
 use Rattle.image.specs.declared.Verdict.the-variants.{Sound, Defective}
 use Rattle.image.proofs.Readings.{read-head}
-use Rattle.image.proofs.Judged.{order-first, contents-on, judged-on}
+use Rattle.records.proofs.Judging.{judged-read}
 use Rattle.image.proofs.Stacks.{Open, open-none, Pushed, Stepped, stepped}
 
 -- After `count` records, the last of which lies as `p` says, or has the tag 0 if there is none: what is left of the image decides on the whole,
@@ -66,6 +66,12 @@ module _ (earlier : List Record) where
   unfolding imageFrom
   from-next n [] h = absurd (omega arith)
   from-next n (b ∷ l) h = refl
+
+-- the record before decides on the order
+order-first : (earlier : List Record) (r : Record) → inOrder (take 1 earlier) r ≡ inOrder earlier r
+unfolding inOrder
+order-first [] r = refl
+order-first (e ∷ earlier) r = refl
 
 pub walk-start : (s : List ℕ) (from : ℕ) → from ≤ length s → length s ≤ 262144 → (stack : List ℕ) → length stack ≡ 4096
     → Walked s (imageFrom 4096 [] (drop from s)) (layoutOf 0 from from from) stack 0 0
@@ -145,13 +151,17 @@ module _ {s : List ℕ} {whole : Image} {p : Layout} {stack : List ℕ} {depth c
           record { tags = omega arith; firsts = λ u v. absurd (omega (arith, u, z, coming .laid .known)) }
       by-before false x y = follows-after (recordOn s p) (recordOn s q) y
 
-  next-is : (t u v : Bool) → goodBlock (recordOn s q) ≡ t → inOrder (recordBefore s p) (recordOn s q) ≡ u → crossesAny earlier (recordOn s q) ≡ v
-      → nextOf earlier (headOf (slice (p .end) (length s) s))
-      ≡ afterJudged (cond t (cond u (cond v (bad 7) (good (recordOn s q))) (bad 6)) (bad 5)) (slice (q .end) (length s) s)
-  next-is t u v x y z =
+  next-is : (u v : Bool) → inOrder (recordBefore s p) (recordOn s q) ≡ u → crossesAny earlier (recordOn s q) ≡ v
+      → nextOf earlier (headOf (slice (p .end) (length s) s)) ≡ afterJudged (cond u (cond v (bad 7) (good (recordOn s q))) (bad 6)) (slice (q .end) (length s) s)
+  next-is u v y z =
+      let m = c .here .readable in
       let o : inOrder earlier (recordOn s q) ≡ u = sym (order-first earlier (recordOn s q)) ∙ sym (ap (λ (l : List Record). inOrder l (recordOn s q)) (c .walked .prior)) ∙ y in
-      rw (read-head s (p .end) (c .walked .inside) _ refl (q .tag) (q .start) (q .end) (c .here .stands))
-      (ap (λ (j : Judged). afterJudged j (slice (q .end) (length s) s)) (judged-on s q (c .here .readable) earlier t u v x o z))
+      rw (
+        read-head s (p .end) (c .walked .inside) _ refl (q .tag) (q .start) (q .end) (c .here .stands),
+        judged-read (q .tag) (slice (q .start) (q .end) s) (recordOn s q) (m .known) (m .parsed) (m .good) earlier,
+        o,
+        z,
+      )
 
   -- what its place says of a record
   abbrev Outcome : Place → Type 0
@@ -160,27 +170,25 @@ module _ {s : List ℕ} {whole : Image} {p : Layout} {stack : List ℕ} {depth c
       (nextOf earlier (headOf (slice (p .end) (length s) s)) ≡ taken (recordOn s q) (slice (q .end) (length s) s))
       × (u ≤ depth) × Pushed s earlier q (set stack u (q .start + 3)) (u + 1)
 
-  module _ (x : goodBlock (recordOn s q) ≡ true) (y : inOrder (recordBefore s p) (recordOn s q) ≡ true) where
+  module _ (y : inOrder (recordBefore s p) (recordOn s q) ≡ true) where
     by-place : (n : Place) → Stepped s earlier (p .tag) (firstOf (recordOn s p)) stack depth (c .walked .opened) q (coming .laid) (after y) n → Outcome n
     by-place (Under u) g =
         let z = g .1 (omega (arith, g .0, c .walked .shallow, c .walked .few, c .walked .size, c .few)) in
-        (next-is true true false x y (z .clear), g .0, z)
-    by-place (Bad d) g = rw (g .0) (next-is true true true x y (g .1))
+        (next-is true false y (z .clear), g .0, z)
+    by-place (Bad d) g = rw (g .0) (next-is true true y (g .1))
 
     no-defect : Outcome (nestOn s p q stack depth)
     no-defect =
         by-place (nestOn s p q stack depth) (stepped s earlier (p .tag) (firstOf (recordOn s p)) stack depth (c .walked .opened) q (coming .laid) (after y)
-        (first-last (recordOn s q) (contents-on s q (c .here .readable) ∙ x)))
+        (first-last (recordOn s q) (c .here .readable .good)))
 
   outcome : Outcome (placeOn s p q stack depth)
   unfolding placeOn
-  outcome = by-tests (goodBlock (recordOn s q)) (inOrder (recordBefore s p) (recordOn s q)) refl refl
+  outcome = by-test (inOrder (recordBefore s p) (recordOn s q)) refl
     where
-      by-tests : (t u : Bool) → goodBlock (recordOn s q) ≡ t → inOrder (recordBefore s p) (recordOn s q) ≡ u
-          → Outcome (cond t (cond u (nestOn s p q stack depth) (Bad 6)) (Bad 5))
-      by-tests true true x y = no-defect x y
-      by-tests true false x y = next-is true false _ x y refl
-      by-tests false u x y = next-is false u _ x y refl
+      by-test : (u : Bool) → inOrder (recordBefore s p) (recordOn s q) ≡ u → Outcome (cond u (nestOn s p q stack depth) (Bad 6))
+      by-test true y = no-defect y
+      by-test false y = next-is false _ y refl
 
   module _ (n : Place) (g : n ≡ placeOn s p q stack depth) where
     pub walk-bad : (d : ℕ) → n ≡ Bad d → Defective d count ≡ verdictOf whole

@@ -6,13 +6,11 @@ use Prim.Native.Nat.{ℕ, zero, suc, _+_, _*_, _≤_, _<_}
 use lib.Dec.{leb, eqb}
 use lib.ListN.{length, getD}
 use lib.Seq.{slice}
-use Rattle.address.specs.Number.{value}
-use Rattle.address.specs.Ranges.{wellFormed}
 use Rattle.address.specs.Positions.{rangeIn}
 use Rattle.fields.specs.Field.{headOf}
 use Rattle.fields.specs.Place.{fieldAt}
 use Rattle.fields.specs.declared.Field.the-variants.{Whole}
-use Rattle.records.specs.Record.{Record, isBlock, widthOf, rangeOf}
+use Rattle.records.specs.Record.{Record, isBlock, widthOf}
 use Rattle.records.specs.Judge.{inOrder}
 use Rattle.records.specs.Place.{previousOf}
 use Rattle.records.specs.Layout.{partsOf, recordOn, LaidOut, Readable}
@@ -60,7 +58,7 @@ nestOf s width start stack (suc d) =
     (cond (leb (rangeIn s start width .last) (openLast s width stack d)) (Under (suc d)) (Bad 7))
     (nestOf s width start stack d)
 
--- Defects 5 to 7 of a record that can be read, which comes after the record p; there is none if p has the tag 0
+-- Defects 6 and 7 of a record that can be read, which comes after the record p; there is none if p has the tag 0
 
 abbrev pub recordBefore : List ℕ → Layout → List Record
 recordBefore s p = previousOf s (p .tag) (partsOf p)
@@ -70,14 +68,9 @@ pub record Coming (s : List ℕ) (p r : Layout) (stack : List ℕ) (depth : ℕ)
   pub earlier : 0 < p .tag → LaidOut (length s) p
   pub open-blocks : r .tag ≤ 18 → p .tag ≡ r .tag → (depth ≤ 4096) × Opened s (widthOf (r .tag)) stack depth
 
--- the status and the range
-abbrev pub goodBlock : Record → Bool
-goodBlock r = leb (value (r .status)) 1 && wellFormed (rangeOf r)
-
 -- only a block after a block of its tag is nested
 abbrev pub nestOn : List ℕ → Layout → Layout → List ℕ → ℕ → Place
 nestOn s p r stack depth = cond (isBlock (r .tag) && eqb (p .tag) (r .tag)) (nestOf s (widthOf (r .tag)) (r .start + 3) stack depth) (Under 0)
 
 unfoldable pub placeOn : List ℕ → Layout → Layout → List ℕ → ℕ → Place
-placeOn s p r stack depth =
-    cond (goodBlock (recordOn s r)) (cond (inOrder (recordBefore s p) (recordOn s r)) (nestOn s p r stack depth) (Bad 6)) (Bad 5)
+placeOn s p r stack depth = cond (inOrder (recordBefore s p) (recordOn s r)) (nestOn s p r stack depth) (Bad 6)

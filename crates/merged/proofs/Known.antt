@@ -17,7 +17,7 @@ use Rattle.records.proofs.Accepted.{alone-good, overlap-good, first-last}
 use Rattle.records.proofs.Laid.{Laid, laid}
 use Rattle.records.proofs.Shapes.{no-block, a-block, named-fields}
 use Rattle.address.specs.Positions.{rangeIn}
-use Rattle.image.proofs.Placing.{range-slice}
+use Rattle.records.proofs.Contents.{range-slice}
 use Rattle.fields.proofs.Starts.{starts}
 use Rattle.merged.specs.Held.{parsedFrom, Recorded, bareKey, Key}
 

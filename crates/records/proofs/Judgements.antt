@@ -6,7 +6,7 @@ use Prim.Native.Nat.{ℕ, _≤_, _<_}
 use borrow.Author.Tests.{le-leb, lt-leb}
 use lib.ListN.{length}
 use lib.Seq.{slice}
-use Rattle.records.specs.Record.{malformed, recordOf, goodTexts, goodContents}
+use Rattle.records.specs.Record.{malformed, recordOf, goodContents}
 use Rattle.records.specs.Judge.{judgeAlone}
 use Rattle.records.specs.Layout.{layoutOf, recordOn, LaidOut, Shaped, Judging}
 use Rattle.records.specs.declared.Shape.{Shape}
@@ -37,9 +37,9 @@ module _ (s : List ℕ) (tag start end : ℕ) where
         pub laid-out : LaidOut (length s) (layoutOf tag start middle end)
         laid-out = shaped .1
 
-        pub judge-texts : goodTexts (recordOn s (layoutOf tag start middle end)) ≡ false → Judging s tag start end (Bad 5)
-        unfolding judgeAlone goodContents
-        judge-texts g = λ earlier. rw (le-leb 0x10 tag k, le-leb tag 0x15 l, shaped .0, g)
+        pub judge-contents : goodContents (recordOn s (layoutOf tag start middle end)) ≡ false → Judging s tag start end (Bad 5)
+        unfolding judgeAlone
+        judge-contents g = λ earlier. rw (le-leb 0x10 tag k, le-leb tag 0x15 l, shaped .0, g)
 
-        pub judge-good : goodTexts (recordOn s (layoutOf tag start middle end)) ≡ true → Judging s tag start end (Good middle)
-        judge-good g = record { known = rw (le-leb 0x10 tag k, le-leb tag 0x15 l); parsed = shaped .0; placed = shaped .1; texts = g }
+        pub judge-good : goodContents (recordOn s (layoutOf tag start middle end)) ≡ true → Judging s tag start end (Good middle)
+        judge-good g = record { known = rw (le-leb 0x10 tag k, le-leb tag 0x15 l); parsed = shaped .0; placed = shaped .1; good = g }

@@ -8,7 +8,7 @@ use lib.Dec.{eqb}
 use lib.ListN.{length, getD}
 use lib.Seq.{slice}
 use Rattle.fields.specs.Place.{lengthAt}
-use Rattle.records.specs.Record.{Record, whole, malformed, isBlock, isKnown, widthOf, recordOf, goodTexts}
+use Rattle.records.specs.Record.{Record, whole, malformed, isBlock, isKnown, widthOf, recordOf, goodContents}
 use Rattle.records.specs.Judge.{bad, judgeAlone}
 use Rattle.records.specs.Place.{Parts, recordAt, Placed}
 use Rattle.records.specs.declared.Span.{Span}
@@ -52,13 +52,12 @@ recordOn s l = recordAt s (l .tag) (partsOf l)
 abbrev pub LaidOut : ℕ → Layout → Type 0
 LaidOut end l = Placed (l .tag) end (partsOf l)
 
--- A record of a known tag lies so, and has no defect 4 and a good handle and name: all that can be said of it without its status, its range
--- and the records before it.
+-- A record lies so, and has no defect from 3 to 5: all that can be said of it without the records before it.
 pub record Readable (s : List ℕ) (l : Layout) : Type 0 where
   pub known : isKnown (l .tag) ≡ true
   pub parsed : recordOf (l .tag) (slice (l .start) (l .end) s) ≡ whole (recordOn s l)
   pub placed : LaidOut (length s) l
-  pub texts : goodTexts (recordOn s l) ≡ true
+  pub good : goodContents (recordOn s l) ≡ true
 
 -- Defect 4 by the heads of the fields
 
@@ -88,7 +87,7 @@ Shaped s tag start end Malformed = recordOf tag (slice start end s) ≡ malforme
 Shaped s tag start end (Whole middle) =
     (recordOf tag (slice start end s) ≡ whole (recordOn s (layoutOf tag start middle end))) × LaidOut (length s) (layoutOf tag start middle end)
 
--- Defects 3, 4 and, by the handle and the name, 5: whatever the earlier records are
+-- Defects 3 to 5, whatever the earlier records are
 abbrev pub Judging : List ℕ → ℕ → ℕ → ℕ → Judgement → Type 0
 Judging s tag start end (Bad defect) = (earlier : List Record) → judgeAlone earlier tag (slice start end s) ≡ bad defect
 Judging s tag start end (Good middle) = Readable s (layoutOf tag start middle end)

@@ -78,8 +78,11 @@ abbrev pub goodTexts : Record → Bool
 goodTexts r = goodText 0x21 (r .handle) && goodName (r .tag) (r .name)
 
 -- S4.3: 23 is 1 or 0, and first is not above last. A record without 20 and 23 has no bytes there, which are 0.
+abbrev pub goodBlock : Record → Bool
+goodBlock r = leb (value (r .status)) 1 && wellFormed (rangeOf r)
+
 unfoldable pub goodContents : Record → Bool
-goodContents r = goodTexts r && (leb (value (r .status)) 1 && wellFormed (rangeOf r))
+goodContents r = goodTexts r && goodBlock r
 
 -- Defect 6
 

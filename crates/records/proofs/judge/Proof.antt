@@ -2,7 +2,7 @@
 use mathlib.Core.Path.{sym, _∙_}
 use borrow.Author.Tests.{not-true, not-false}
 use denote.Ref.{now}
-use Rattle.records.proofs.Judgements.{judge-low, judge-high, judge-malformed, laid-out, judge-texts, judge-good}
+use Rattle.records.proofs.Judgements.{judge-low, judge-high, judge-malformed, laid-out, judge-contents, judge-good}
 use borrow.Author.Needs.{needs}
 use Rattle.records.proofs.judge.Statement.{statement}
 use Rattle.records.proofs.judge.Tie as tie
@@ -32,8 +32,8 @@ returns-3 c =
     judge-malformed (now (a .args .image)) (a .args .tag) (a .args .start) (a .args .end)
     (c .before .before .before .before .if1 .left) (c .before .before .before .if2 .left) (c .before .before .shape-of .result) (c .before .before .shape-of .ensures) (c .enum-told .given .1)
 
-texts-ok-requires : tie.Need-texts-ok-requires
-texts-ok-requires c κs =
+contents-ok-requires : tie.Need-contents-ok-requires
+contents-ok-requires c κs =
     let a = c .before .before .before .before .before .before .before in
     laid-out (now (a .args .image)) (a .args .tag) (a .args .start) (a .args .end)
     (c .before .before .before .before .before .if1 .left) (c .before .before .before .before .if2 .left) (c .before .before .before .shape-of .result) (c .before .before .before .shape-of .ensures) _ (c .before .middle .given .1)
@@ -41,10 +41,10 @@ texts-ok-requires c κs =
 returns-4 : tie.Need-returns-4
 returns-4 c =
     let a = c .before .before .before .before .before .before .before .before .before in
-    judge-texts (now (a .args .image)) (a .args .tag) (a .args .start) (a .args .end)
+    judge-contents (now (a .args .image)) (a .args .tag) (a .args .start) (a .args .end)
     (c .before .before .before .before .before .before .before .if1 .left) (c .before .before .before .before .before .before .if2 .left)
     (c .before .before .before .before .before .shape-of .result) (c .before .before .before .before .before .shape-of .ensures) _ (c .before .before .before .middle .given .1)
-    (sym (c .before .texts-ok .ensures) ∙ not-true _ (c .if3 .taken))
+    (sym (c .before .contents-ok .ensures) ∙ not-true _ (c .if3 .taken))
 
 returns-5 : tie.Need-returns-5
 returns-5 c =
@@ -52,7 +52,7 @@ returns-5 c =
     judge-good (now (a .args .image)) (a .args .tag) (a .args .start) (a .args .end)
     (c .before .before .before .before .before .before .before .if1 .left) (c .before .before .before .before .before .before .if2 .left)
     (c .before .before .before .before .before .shape-of .result) (c .before .before .before .before .before .shape-of .ensures) _ (c .before .before .before .middle .given .1)
-    (sym (c .before .texts-ok .ensures) ∙ not-false _ (c .if3 .left))
+    (sym (c .before .contents-ok .ensures) ∙ not-false _ (c .if3 .left))
 
 pub judge-spec : {M : Type 1} → statement M
 judge-spec =
@@ -64,6 +64,6 @@ judge-spec =
     enum-known-middle
     enum-told
     returns-3
-    texts-ok-requires
+    contents-ok-requires
     returns-4
     returns-5)

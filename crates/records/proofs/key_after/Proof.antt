@@ -30,9 +30,8 @@ bytes-at-most-requires c κs = search needs
 
 returns : tie.Need-returns
 returns c =
-    let a = c .before .before .before .before in
-    let s = now (a .args .image) in
-    rw (← part-slice (a .args .r .start) (a .args .r .end) s (a .pre .3), ← part-slice (a .args .p .start) (a .args .p .end) s (a .pre .1)) (ap not (c .bytes-at-most .ensures))
+    let a = c .before .before .before .before .before in
+    rw (← part-slice (a .args .r .start) (a .args .r .end) (now (a .args .b)) (a .pre .3), ← part-slice (a .args .p .start) (a .args .p .end) (now (a .args .a)) (a .pre .1)) (ap not (c .bytes-at-most .ensures))
 
 pub key-after-spec : {M : Type 1} → statement M
 key-after-spec =
