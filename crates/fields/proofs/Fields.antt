@@ -69,6 +69,9 @@ module _ (s : List ℕ) (at end : ℕ) where
   front : fieldAt (take end s) at end ≡ fieldAt s at end
   front = by-room (ltb (end - at) 3) refl
 
+pub front-at : (s : List ℕ) (at end : ℕ) → end ≤ length s → fieldAt (take end s) at (length (take end s)) ≡ fieldAt s at end
+front-at s at end h = rw (length-take-le end s h) (front s at end)
+
 front-passed : (s : List ℕ) (n at end : ℕ) → passed (take end s) n at end ≡ passed s n at end
 unfolding passed
 front-passed s zero at end = refl
