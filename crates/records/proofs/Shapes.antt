@@ -321,9 +321,10 @@ module _ (s : List ℕ) (l : Layout) (p : LaidOut (length s) l) (g : goodContent
   unfolding goodText
   short-texts =
       let h = within-high 1 64 (length (recordOn s l .handle)) (and-left _ _ (and-left (goodText 0x21 (recordOn s l .handle)) (goodName (l .tag) (recordOn s l .name)) good-texts)) in
-      let n = short-name (l .tag) (recordOn s l .name) (and-right (goodText 0x21 (recordOn s l .handle)) (goodName (l .tag) (recordOn s l .name)) good-texts) in
-      (omega (arith, h, length-slice (partsOf l .handle .start) (partsOf l .handle .end) s (p .handle .within)),
-      omega (arith, n, length-slice (partsOf l .name .start) (partsOf l .name .end) s (p .name .within)))
+      let n = short-name (l .tag) (recordOn s l .name) (and-right (goodText 0x21 (recordOn s l .handle)) (goodName (l .tag) (recordOn s l .name)) good-texts) in (
+        omega (arith, h, length-slice (partsOf l .handle .start) (partsOf l .handle .end) s (p .handle .within)),
+        omega (arith, n, length-slice (partsOf l .name .start) (partsOf l .name .end) s (p .name .within)),
+      )
 
 same-record : (p r : Record) → whole p ≡ whole r → p ≡ r
 same-record p r e = cc
