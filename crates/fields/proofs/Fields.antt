@@ -4,13 +4,14 @@ use mathlib.Core.List.{List}
 use Prim.Native.Nat.{ℕ, zero, suc, _+_, _-_, _*_, _≤_, _<_}
 use mathlib.Core.Bool.{Bool, true, false}
 use native.Mathlib.Omega.{arith}
-use borrow.Author.Tests.{lt-ltb, le-ltb, ltb-false}
-use lib.Dec.{ltb}
+use borrow.Author.Tests.{lt-ltb, le-ltb, ltb-false, leb-true, le-leb, eq-eqb, eqb-true}
+use lib.Dec.{leb, ltb, eqb}
 use lib.ListN.{length, getD, take}
 use lib.Seq.{getD-take, length-take-le}
-use Rattle.fields.specs.Place.{fieldAt, behind, passed, fieldAfter}
+use Rattle.fields.specs.Place.{lengthAt, fieldAt, endBy, endBetween, behind, passed, fieldAfter}
 use Rattle.fields.specs.declared.Field.{Field}
 use Rattle.fields.specs.declared.Field.the-variants.{Whole, Short}
+use Rattle.fields.specs.declared.End.the-variants.{At, Nothing}
 
 module _ (s : List ℕ) (at end : ℕ) where
   pub no-head : end - at < 3 → Short ≡ fieldAt s at end
@@ -30,6 +31,32 @@ module _ (s : List ℕ) (at end : ℕ) where
         let m : h * 256 + l ≤ end - (at + 3) = omega arith in
         rw (← p, ← q) (simp (le-ltb _ _ t, le-ltb _ _ m))
 
+-- the step to a field of a tag and of low to high bytes
+module _ (s : List ℕ) (at end low high tag : ℕ) where
+  -- a test that fails leaves none
+  pub none-ends : (3 ≤ end - at → lengthAt s at ≤ end - (at + 3) → getD s at 0 ≡ tag → low ≤ lengthAt s at → lengthAt s at ≤ high → ⊥)
+      → Nothing ≡ endBetween low high tag (fieldAt s at end)
+  unfolding fieldAt endBy
+  none-ends n = by-tests (ltb (end - at) 3) (ltb (end - (at + 3)) (lengthAt s at)) (eqb (getD s at 0) tag) (leb low (lengthAt s at)) (leb (lengthAt s at) high) refl refl refl refl refl
+    where
+      d : at + 3 + lengthAt s at - (at + 3) ≡ lengthAt s at
+      d = omega arith
+
+      by-tests : (t u v w x : Bool) → ltb (end - at) 3 ≡ t → ltb (end - (at + 3)) (lengthAt s at) ≡ u → eqb (getD s at 0) tag ≡ v
+          → leb low (lengthAt s at) ≡ w → leb (lengthAt s at) high ≡ x → Nothing ≡ endBetween low high tag (fieldAt s at end)
+      by-tests true u v w x e f g h i = rw e
+      by-tests false true v w x e f g h i = rw (e, f)
+      by-tests false false false w x e f g h i = rw (e, f, g)
+      by-tests false false true false x e f g h i = rw (e, f, g, d, h)
+      by-tests false false true true false e f g h i = rw (e, f, g, d, h, i)
+      by-tests false false true true true e f g h i = absurd (n (ltb-false _ _ e) (ltb-false _ _ f) (eqb-true _ _ g) (leb-true _ _ h) (leb-true _ _ i))
+
+  pub one-ends : (n : ℕ) → lengthAt s at ≡ n → getD s at 0 ≡ tag → at + 3 + n ≤ end → low ≤ n → n ≤ high → At (at + 3 + n) ≡ endBetween low high tag (fieldAt s at end)
+  unfolding fieldAt endBy
+  one-ends n e t k l h =
+      let d : at + 3 + n - (at + 3) ≡ n = omega arith in
+      rw (le-ltb (end - at) 3 (omega arith), e, le-ltb (end - (at + 3)) n (omega arith), eq-eqb _ _ t, d, le-leb low n l, le-leb n high h)
+
 -- a reader of the image up to `end` reads what ends at `end`
 module _ (s : List ℕ) (at end : ℕ) where
   by-room : (t : Bool) → ltb (end - at) 3 ≡ t → fieldAt (take end s) at end ≡ fieldAt s at end
@@ -41,6 +68,9 @@ module _ (s : List ℕ) (at end : ℕ) where
 
   front : fieldAt (take end s) at end ≡ fieldAt s at end
   front = by-room (ltb (end - at) 3) refl
+
+pub front-at : (s : List ℕ) (at end : ℕ) → end ≤ length s → fieldAt (take end s) at (length (take end s)) ≡ fieldAt s at end
+front-at s at end h = rw (length-take-le end s h) (front s at end)
 
 front-passed : (s : List ℕ) (n at end : ℕ) → passed (take end s) n at end ≡ passed s n at end
 unfolding passed

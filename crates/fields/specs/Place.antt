@@ -1,14 +1,16 @@
 -- Serves contracts and proofs. The field at a position of the image, and what a reader passes.
-use mathlib.Core.Bool.{cond}
+use mathlib.Core.Bool.{Bool, cond, _&&_}
 use mathlib.Core.List.{List}
 use Prim.Native.Nat.{ℕ, zero, suc, _+_, _-_, _*_, _≤_}
 use mathlib.Core.Path.{_≡_}
-use lib.Dec.{ltb}
+use lib.Dec.{leb, ltb, eqb}
 use lib.ListN.{getD}
 use lib.Seq.{slice}
 use Rattle.fields.specs.Field.{Head, field, short}
 use Rattle.fields.specs.declared.Field.{Field}
 use Rattle.fields.specs.declared.Field.the-variants.{Whole, Short}
+use Rattle.fields.specs.declared.End.{End}
+use Rattle.fields.specs.declared.End.the-variants.{At, Nothing}
 
 -- the length that a field at a position states
 abbrev pub lengthAt : List ℕ → ℕ → ℕ
@@ -19,6 +21,15 @@ unfoldable pub fieldAt : List ℕ → ℕ → ℕ → Field
 fieldAt s at end =
     cond (ltb (end - at) 3) Short
     (cond (ltb (end - (at + 3)) (lengthAt s at)) Short (Whole (getD s at 0) (at + 3) (at + 3 + lengthAt s at)))
+
+-- where a field ends that has the tag and a length that fits
+unfoldable pub endBy : (ℕ → Bool) → ℕ → Field → End
+endBy fits tag Short = Nothing
+endBy fits tag (Whole t start end) = cond (eqb t tag && fits (end - start)) (At end) Nothing
+
+-- of low to high bytes
+abbrev pub endBetween : ℕ → ℕ → ℕ → Field → End
+endBetween low high tag f = endBy (λ n. leb low n && leb n high) tag f
 
 -- the bytes that such an answer stands for
 abbrev pub headAt : List ℕ → ℕ → Field → Head

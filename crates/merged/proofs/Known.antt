@@ -105,4 +105,4 @@ module _ (s : List ℕ) (k : Recorded s) where
       by-tag false e =
           let x = known s k in
           let f = named-fields s (r .tag) 3 (length s) (le-refl _) (no-block (r .tag) (leb-false _ _ e)) r (x .long) (x .whole-is) in
-          omega (arith, f .holds .handle .ends, f .holds .name .ends)
+          omega (arith, f .holds .handle .forward, f .holds .name .forward)

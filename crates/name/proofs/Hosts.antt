@@ -14,18 +14,26 @@ use Rattle.name.specs.Texts.{goodHost}
 use Rattle.name.specs.HostScan.{letterOrDigit, labelsFrom}
 use Rattle.name.specs.Run.{run, mayFollow, followAt}
 use Rattle.name.proofs.Labels.{host-labels}
-use Rattle.pieces.proofs.Tests.{and-left, and-right}
-use Rattle.name.proofs.Runs.{run-step, run-ends, first-true, true-first, equal-if, and-both}
+use Rattle.pieces.proofs.Tests.{and-left, and-right, and-false}
+use Rattle.name.proofs.Runs.{run-step, run-ends, run-thirds, first-true, true-first, equal-if, and-both}
 
 module _ (s : List ℕ) where
-  pub host-step : (at i : ℕ) (good r : Bool) → good ≡ run (followAt s) at i
-      → r ≡ mayFollow (getD s (at + i) 0) (getD s (at + i + 1) 0) → (good && r) ≡ run (followAt s) at (i + 1)
+  pub host-step : (step at i : ℕ) (good r : Bool) → step ≡ 1 → good ≡ run (followAt s) at i
+      → r ≡ mayFollow (getD s (at + i) 0) (getD s (at + i + step) 0) → (good && r) ≡ run (followAt s) at (i + 1)
   unfolding followAt
-  host-step at i good r e d = rw (run-step, e, d, add-one (at + i))
+  host-step step at i good r o e d = rw (run-step, e, d, o, add-one (at + i))
 
   pub host-ends : (k : ℕ) → k < length s → length s ≤ k + k + 1
       → (run (followAt s) 0 k && run (followAt s) (length s - 1 - k) k) ≡ run (followAt s) 0 (length s - 1)
-  host-ends k h l = run-ends (followAt s) k (length s - 1) (omega arith) (omega arith)
+  host-ends k h l = run-ends (followAt s) k k (length s - 1) (omega arith) (omega arith) (omega arith)
+
+  pub host-thirds : (k : ℕ) → k + k < length s → length s ≤ k + k + k + 1
+      → (run (followAt s) 0 k && run (followAt s) k k && run (followAt s) (length s - 1 - k) k) ≡ run (followAt s) 0 (length s - 1)
+  host-thirds k h l = run-thirds (followAt s) k (length s - 1) (omega arith) (omega arith)
+
+and-true : (a : Bool) → (a && true) ≡ a
+and-true true = refl
+and-true false = refl
 
 -- the bytes after x
 chain : ℕ → List ℕ → Bool
@@ -135,12 +143,8 @@ host-short (x ∷ xs) h q =
 
 -- what each test of a short host name decides
 module _ (s : List ℕ) (h : 1 ≤ length s) (q : length s ≤ 63) where
-  pub host-first : letterOrDigit (getD s 0 0) ≡ false → false ≡ goodHost s
-  host-first e = rw (host-short s h q, e)
+  pub host-unpaired : run (followAt s) 0 (length s - 1) ≡ false → false ≡ goodHost s
+  host-unpaired e = rw (host-short s h q, e, and-false (letterOrDigit (getD s (length s - 1) 0)), and-false (letterOrDigit (getD s 0 0)))
 
-  module _ (f : letterOrDigit (getD s 0 0) ≡ true) where
-    pub host-last : letterOrDigit (getD s (length s - 1) 0) ≡ false → false ≡ goodHost s
-    host-last e = rw (host-short s h q, f, e)
-
-    pub host-inner : letterOrDigit (getD s (length s - 1) 0) ≡ true → run (followAt s) 0 (length s - 1) ≡ goodHost s
-    host-inner e = rw (host-short s h q, f, e)
+  pub host-paired : run (followAt s) 0 (length s - 1) ≡ true → (letterOrDigit (getD s 0 0) && letterOrDigit (getD s (length s - 1) 0)) ≡ goodHost s
+  host-paired e = rw (host-short s h q, e, and-true (letterOrDigit (getD s (length s - 1) 0)))

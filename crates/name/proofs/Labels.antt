@@ -1,32 +1,16 @@
 -- One step of the reading of a host name byte by byte.
-use mathlib.Core.Path.{_≡_, sym}
+use mathlib.Core.Path.{_≡_}
 use mathlib.Core.Bool.{Bool, true, false, not, _&&_}
-use lib.Dec.{leb}
 use mathlib.Core.List.{List}
 use Prim.Native.Nat.{ℕ, suc, _+_, _≤_, _<_}
 use Prim.Native.Char.{code}
 use borrow.Author.Tests.{eq-eqb, ne-eqb, le-leb, lt-leb}
-use native.Mathlib.Omega.{arith}
 use lib.ListN.{length, getD, drop, drop-of-length-le}
 use lib.Seq.{drop-cons}
 use Rattle.address.specs.Lists.{within}
-use Rattle.pieces.proofs.Tests.{or-false}
 use Rattle.name.specs.Texts.{goodHost}
 use Rattle.name.specs.HostScan.{letterOrDigit, labelsFrom}
 use Rattle.name.proofs.HostScan.{host-scan}
-
-module _ (b : ℕ) where
-  pub letter-high : code "a" ≤ b → leb b (code "z") ≡ letterOrDigit b
-  unfolding letterOrDigit
-  letter-high h = rw (le-leb (code "a") b h, le-leb (code "0") b (omega arith), lt-leb b (code "9") (omega arith)) (sym (or-false (leb b (code "z"))))
-
-  pub letter-digit : b < code "a" → code "0" ≤ b → leb b (code "9") ≡ letterOrDigit b
-  unfolding letterOrDigit
-  letter-digit h k = rw (lt-leb (code "a") b h, le-leb (code "0") b k)
-
-  pub letter-none : b < code "a" → b < code "0" → false ≡ letterOrDigit b
-  unfolding letterOrDigit
-  letter-none h k = rw (lt-leb (code "a") b h, lt-leb (code "0") b k)
 
 -- what the byte at i makes of a label of k bytes, the last one a hyphen or not
 module _ (k : ℕ) (hyphen : Bool) (s : List ℕ) (i : ℕ) where

@@ -1,5 +1,5 @@
 -- Laws of runs: one step, two runs that overlap, and a run over a whole list.
-use mathlib.Core.Path.{_≡_, refl, sym, _∙_}
+use mathlib.Core.Path.{_≡_, refl, sym, ap, _∙_}
 use mathlib.Core.Bool.{Bool, true, false, _&&_}
 use mathlib.Core.List.{List, [], _∷_}
 use Prim.Native.Nat.{ℕ, zero, suc, _+_, _-_, _≤_, _<_, zero-le, suc-le-suc}
@@ -50,19 +50,26 @@ module _ (q : ℕ → Bool) (n : ℕ) where
   pub true-first : ((i : ℕ) → i < n → q i ≡ true) → run q 0 n ≡ true
   true-first f = true-run q 0 n (λ i h. let d : 0 + i ≡ i = omega arith in rw d (f i h))
 
--- the first k and the last k of n, which overlap or touch
-module _ (q : ℕ → Bool) (k n : ℕ) (h : k ≤ n) (l : n ≤ k + k) where
-  pub run-ends : (run q 0 k && run q (n - k) k) ≡ run q 0 n
+-- the first k and the last l of n, which overlap or touch
+module _ (q : ℕ → Bool) (k l n : ℕ) (h : k ≤ n) (g : l ≤ n) (m : n ≤ k + l) where
+  pub run-ends : (run q 0 k && run q (n - l) l) ≡ run q 0 n
   run-ends = equal-if _ _
       (λ e. true-first q n (λ i j. pick e i j (ltb i k) refl))
       (λ e. and-both _ _ (true-first q k (λ i j. first-true q n e i (omega arith)))
-      (true-run q (n - k) k (λ i j. first-true q n e (n - k + i) (omega arith))))
+      (true-run q (n - l) l (λ i j. first-true q n e (n - l + i) (omega arith))))
     where
-      pick : (run q 0 k && run q (n - k) k) ≡ true → (i : ℕ) → i < n → (t : Bool) → ltb i k ≡ t → q i ≡ true
-      pick e i j true p = first-true q k (and-left (run q 0 k) (run q (n - k) k) e) i (ltb-true i k p)
+      pick : (run q 0 k && run q (n - l) l) ≡ true → (i : ℕ) → i < n → (t : Bool) → ltb i k ≡ t → q i ≡ true
+      pick e i j true p = first-true q k (and-left (run q 0 k) (run q (n - l) l) e) i (ltb-true i k p)
       pick e i j false p =
-          let d : n - k + (i - (n - k)) ≡ i = omega (arith, ltb-false i k p) in
-          rw d at (run-true q (n - k) k (and-right (run q 0 k) (run q (n - k) k) e) (i - (n - k)) (omega (arith, ltb-false i k p)))
+          let d : n - l + (i - (n - l)) ≡ i = omega (arith, ltb-false i k p) in
+          rw d at (run-true q (n - l) l (and-right (run q 0 k) (run q (n - l) l) e) (i - (n - l)) (omega (arith, ltb-false i k p)))
+
+-- the first k, the next k and the last k of n
+pub run-thirds : (q : ℕ → Bool) (k n : ℕ) → k + k ≤ n → n ≤ k + k + k → (run q 0 k && run q k k && run q (n - k) k) ≡ run q 0 n
+run-thirds q k n h g =
+    let d : k + k - k ≡ k = omega arith in
+    ap (λ (b : Bool). b && run q (n - k) k) (rw d at (run-ends q k k (k + k) (omega arith) (omega arith) (omega arith)))
+    ∙ run-ends q (k + k) k n h (omega arith) (omega arith)
 
 module _ (p : ℕ → Bool) where
   pub every-true : (s : List ℕ) → every p s ≡ true → (i : ℕ) → i < length s → p (getD s i 0) ≡ true

@@ -47,6 +47,17 @@ fn text_ends(s: &[u8], low: u8, n: usize) -> bool
     first & last
 }
 
+// The same by the first n, the next n and the last n.
+fn text_thirds(s: &[u8], low: u8, n: usize) -> bool
+    requires { ⌜ (n + n ≤ length (now s)) × (length (now s) ≤ n + n + n) ⌝ }
+    ensures { λ r. ⌜ r ≡ every (textByte low) (now (s .entry)) ⌝ }
+{
+    let first = text_run(s, low, 0, n);
+    let second = text_run(s, low, n, n);
+    let last = text_run(s, low, s.len() - n, n);
+    first & second & last
+}
+
 // Whether s has 1 to 64 bytes from low to 7E, with no asterisk.
 pub fn text_ok(s: &[u8], low: u8) -> bool
     ensures { λ r. ⌜ r ≡ goodText low (now (s .entry)) ⌝ }
@@ -67,25 +78,28 @@ pub fn handle_ok(s: &[u8]) -> bool
     ensures { λ r. ⌜ r ≡ goodText 0x21 (now (s .entry)) ⌝ }
 {
     let n = s.len();
-    if n < 1 {
-        return false;
-    }
-    if 64 < n {
-        return false;
-    }
-    if n < 4 {
-        return text_run(s, 0x21, 0, n);
+    if (8 <= n) & (n <= 16) {
+        return text_ends(s, 0x21, 8);
     }
     if n < 8 {
-        return text_ends(s, 0x21, 4);
-    }
-    if n <= 16 {
-        return text_ends(s, 0x21, 8);
+        if 4 <= n {
+            return text_ends(s, 0x21, 4);
+        }
+        if 1 <= n {
+            return text_run(s, 0x21, 0, n);
+        }
+        return false;
     }
     if n <= 32 {
         return text_ends(s, 0x21, 16);
     }
-    text_ends(s, 0x21, 32)
+    if n <= 48 {
+        return text_thirds(s, 0x21, 16);
+    }
+    if n <= 64 {
+        return text_ends(s, 0x21, 32);
+    }
+    false
 }
 
 // Whether s is a name.
@@ -93,37 +107,34 @@ pub fn name_ok(s: &[u8]) -> bool
     ensures { λ r. ⌜ r ≡ goodText 0x20 (now (s .entry)) ⌝ }
 {
     let n = s.len();
-    if n < 1 {
-        return false;
-    }
-    if 64 < n {
-        return false;
-    }
-    if n < 4 {
-        return text_run(s, 0x20, 0, n);
+    if (8 <= n) & (n <= 16) {
+        return text_ends(s, 0x20, 8);
     }
     if n < 8 {
-        return text_ends(s, 0x20, 4);
-    }
-    if n <= 16 {
-        return text_ends(s, 0x20, 8);
+        if 4 <= n {
+            return text_ends(s, 0x20, 4);
+        }
+        if 1 <= n {
+            return text_run(s, 0x20, 0, n);
+        }
+        return false;
     }
     if n <= 32 {
         return text_ends(s, 0x20, 16);
     }
-    text_ends(s, 0x20, 32)
+    if n <= 48 {
+        return text_thirds(s, 0x20, 16);
+    }
+    if n <= 64 {
+        return text_ends(s, 0x20, 32);
+    }
+    false
 }
 
 fn letter_or_digit(b: u8) -> bool
     ensures { λ r. ⌜ r ≡ letterOrDigit b ⌝ }
 {
-    if b'a' <= b {
-        return b <= b'z';
-    }
-    if b'0' <= b {
-        return b <= b'9';
-    }
-    false
+    ((b'a' <= b) & (b <= b'z')) | ((b'0' <= b) & (b <= b'9'))
 }
 
 // Whether y may follow x in a host name.
@@ -137,73 +148,76 @@ fn may_follow(x: u8, y: u8) -> bool
     letter | digit | hyphen | dot
 }
 
-// Whether each of the n bytes from at on may be followed by the next one.
-fn host_run(s: &[u8], at: usize, n: usize) -> bool
-    requires { ⌜ at + n < length (now s) ⌝ }
+// Whether each of the n bytes from at on may be followed by the next one. step is 1, and the compiler is not to know it: where it sees that the
+// two bytes are neighbours, it makes no vectors of the run.
+fn host_run(s: &[u8], step: usize, at: usize, n: usize) -> bool
+    requires { ⌜ (step ≡ 1) × (at + n < length (now s)) ⌝ }
     ensures { λ r. ⌜ r ≡ run (followAt (now (s .entry))) at n ⌝ }
 {
     let mut good = true;
     let mut i: usize = 0;
     while i < n {
         let j = at + i;
-        good = good & may_follow(s[j], s[j + 1]);
+        good = good & may_follow(s[j], s[j + step]);
         i += 1;
     }
     good
 }
 
 // The same of all bytes but the last, by the first n and the last n of them, which overlap or touch.
-fn host_ends(s: &[u8], n: usize) -> bool
-    requires { ⌜ (n < length (now s)) × (length (now s) ≤ n + n + 1) ⌝ }
+fn host_ends(s: &[u8], step: usize, n: usize) -> bool
+    requires { ⌜ (step ≡ 1) × (n < length (now s)) × (length (now s) ≤ n + n + 1) ⌝ }
     ensures { λ r. ⌜ r ≡ run (followAt (now (s .entry))) 0 (length (now (s .entry)) - 1) ⌝ }
 {
-    let first = host_run(s, 0, n);
-    let last = host_run(s, s.len() - 1 - n, n);
+    let first = host_run(s, step, 0, n);
+    let last = host_run(s, step, s.len() - 1 - n, n);
     first & last
 }
 
-// A size of which two runs cover n places. It comes from a function so that the compiler does not know it: unrolled, a run over
-// pairs of neighbours becomes worse code than a loop.
-fn run_size(n: usize) -> usize
-    requires { ⌜ (4 ≤ n) × (n ≤ 64) ⌝ }
-    ensures { λ r. ⌜ (r ≤ n) × (n ≤ r + r) ⌝ }
+// The same by the first n, the next n and the last n.
+fn host_thirds(s: &[u8], step: usize, n: usize) -> bool
+    requires { ⌜ (step ≡ 1) × (n + n < length (now s)) × (length (now s) ≤ n + n + n + 1) ⌝ }
+    ensures { λ r. ⌜ r ≡ run (followAt (now (s .entry))) 0 (length (now (s .entry)) - 1) ⌝ }
 {
-    if n < 8 {
-        return 4;
-    }
-    if n <= 16 {
-        return 8;
-    }
-    if n <= 32 {
-        return 16;
-    }
-    32
+    let first = host_run(s, step, 0, n);
+    let second = host_run(s, step, n, n);
+    let last = host_run(s, step, s.len() - 1 - n, n);
+    first & second & last
 }
 
-// Whether each byte of a name of 1 to 64 bytes may be followed by the next one.
-fn host_pairs(s: &[u8]) -> bool
-    requires { ⌜ (1 ≤ length (now s)) × (length (now s) ≤ 64) ⌝ }
+// Whether each byte of a name of 1 to 65 bytes may be followed by the next one.
+fn host_pairs(s: &[u8], step: usize) -> bool
+    requires { ⌜ (step ≡ 1) × (1 ≤ length (now s)) × (length (now s) ≤ 65) ⌝ }
     ensures { λ r. ⌜ r ≡ run (followAt (now (s .entry))) 0 (length (now (s .entry)) - 1) ⌝ }
 {
     let n = s.len() - 1;
-    if n < 4 {
-        return host_run(s, 0, n);
+    if 16 < n {
+        if n <= 32 {
+            return host_ends(s, step, 16);
+        }
+        if n <= 48 {
+            return host_thirds(s, step, 16);
+        }
+        return host_ends(s, step, 32);
     }
-    host_ends(s, run_size(n))
+    if 8 <= n {
+        return host_ends(s, step, 8);
+    }
+    if 4 <= n {
+        return host_ends(s, step, 4);
+    }
+    host_run(s, 1, 0, n)
 }
 
-// The same as host_ok, of 1 to 63 bytes: no label can be too long.
-fn short_host_ok(s: &[u8]) -> bool
-    requires { ⌜ (1 ≤ length (now s)) × (length (now s) ≤ 63) ⌝ }
+// The same as host_ok, of 1 to 63 bytes: no label can be too long. The first and the last byte come after the pairs, which is faster.
+fn short_host_ok(s: &[u8], step: usize) -> bool
+    requires { ⌜ (step ≡ 1) × (1 ≤ length (now s)) × (length (now s) ≤ 63) ⌝ }
     ensures { λ r. ⌜ r ≡ goodHost (now (s .entry)) ⌝ }
 {
-    if !letter_or_digit(s[0]) {
+    if !host_pairs(s, step) {
         return false;
     }
-    if !letter_or_digit(s[s.len() - 1]) {
-        return false;
-    }
-    host_pairs(s)
+    letter_or_digit(s[0]) & letter_or_digit(s[s.len() - 1])
 }
 
 // Whether a label of so many bytes, the last one a hyphen or not, may end.
@@ -254,13 +268,14 @@ pub fn host_ok(s: &[u8]) -> bool
     ensures { λ r. ⌜ r ≡ goodHost (now (s .entry)) ⌝ }
 {
     let n = s.len();
+    let step = n / 4294967296 + 1;
     if n < 1 {
         return long_host_ok(s);
     }
     if 63 < n {
         return long_host_ok(s);
     }
-    short_host_ok(s)
+    short_host_ok(s, step)
 }
 
 // A capital as the small letter.

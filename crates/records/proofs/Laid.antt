@@ -10,8 +10,8 @@ use lib.Seq.{slice, slice-empty}
 use Rattle.fields.specs.Place.{passed}
 use Rattle.records.specs.Record.{Record, whole, isBlock, widthOf, recordOf}
 use Rattle.records.specs.Place.{bytesOf, Inside, innerSpan, rangeSpan, handleSpan, nameSpan}
-use Rattle.records.specs.Layout.{spanFromTo, layoutOf, recordOn, Stands, Texts, BlockFields}
-use Rattle.records.proofs.Shapes.{field-there, named-whole, named-fields, block-whole, block-fields}
+use Rattle.records.specs.Layout.{spanFromTo, layoutOf, recordOn}
+use Rattle.records.proofs.Shapes.{Stands, Texts, BlockFields, is, named-whole, named-fields, block-whole, block-fields}
 
 -- where the parts of a record of the tag are, whose contents go from start up to end
 pub record Laid (s : List ℕ) (tag start end : ℕ) (r : Record) : Type 0 where
@@ -26,32 +26,24 @@ pub record Laid (s : List ℕ) (tag start end : ℕ) (r : Record) : Type 0 where
   pub name-inside : Inside end (nameSpan s tag start end)
 
 -- a reader passes a field that stands, and finds one
-module _ (s : List ℕ) (tag at to : ℕ) (f : Stands s tag at to) (end : ℕ) (h : to ≤ end) where
+module _ (s : List ℕ) (end tag at to : ℕ) (f : Stands s end tag at to) where
   pass-one : (n : ℕ) → passed s (suc n) at end ≡ passed s n to end
   unfolding passed
-  pass-one n = rw (field-there s tag at to f end h)
+  pass-one n = rw (f .found)
 
   span-at : (start n : ℕ) → passed s n start end ≡ at → innerSpan s start end n ≡ spanFromTo (at + 3) to
-  span-at start n e = rw (e, field-there s tag at to f end h)
-
-same-record : (p r : Record) → whole p ≡ whole r → p ≡ r
-same-record p r e = cc
+  span-at start n e = rw (e, f .found)
 
 module _ (s : List ℕ) (tag start end : ℕ) (r : Record) (p : start ≤ end) (q : end ≤ length s) (e : recordOf tag (slice start end s) ≡ whole r) where
-  is : (middle : ℕ) → recordOf tag (slice start end s) ≡ whole (recordOn s (layoutOf tag start middle end)) → recordOn s (layoutOf tag start middle end) ≡ r
-  is middle f = same-record _ r (sym f ∙ e)
-
-  module _ (b : isBlock tag ≡ false) (middle : ℕ) (t : Texts s start end middle) where
+  module _ (b : isBlock tag ≡ false) (middle : ℕ) (t : Texts s end start end middle) where
     is-named : recordOn s (layoutOf tag start middle end) ≡ r
-    is-named = is middle (named-whole s tag start end q b middle t)
+    is-named = is s tag start end p q r e middle (named-whole s tag start end q b middle t)
 
     by-named : Laid s tag start end r
     unfolding rangeSpan handleSpan nameSpan passed
     by-named =
-        let m : middle ≤ end = omega (arith, t .name .ends) in
-        let h : innerSpan s start end 0 ≡ spanFromTo (start + 3) middle = span-at s 0x21 start middle (t .handle) end m start 0 refl in
-        let n : innerSpan s start end 1 ≡ spanFromTo (middle + 3) end =
-        span-at s 0x22 middle end (t .name) end (le-refl end) start 1 (pass-one s 0x21 start middle (t .handle) end m 0) in
+        let h : innerSpan s start end 0 ≡ spanFromTo (start + 3) middle = span-at s end 0x21 start middle (t .handle) start 0 refl in
+        let n : innerSpan s start end 1 ≡ spanFromTo (middle + 3) end = span-at s end 0x22 middle end (t .name) start 1 (pass-one s end 0x21 start middle (t .handle) 0) in
         record {
           own-tag = sym (ap (λ (z : Record). z .tag) is-named);
           range-inside = λ z. absurd (false≢true (sym b ∙ z));
@@ -59,29 +51,28 @@ module _ (s : List ℕ) (tag start end : ℕ) (r : Record) (p : start ≤ end) (
           range-span = rw b (slice-empty 0 s ∙ sym (slice-empty start s) ∙ rw b at (ap (λ (z : Record). z .range) is-named));
           range-span-inside = rw b (record { forward = omega arith; within = omega arith });
           handle = rw (b, h) (rw b at (ap (λ (z : Record). z .handle) is-named));
-          handle-inside = rw (b, h) (record { forward = omega (arith, t .handle .ends); within = m });
+          handle-inside = rw (b, h) (record { forward = t .handle .forward; within = t .handle .within });
           name = rw (b, n) (rw b at (ap (λ (z : Record). z .name) is-named));
-          name-inside = rw (b, n) (record { forward = omega (arith, t .name .ends); within = le-refl end });
+          name-inside = rw (b, n) (record { forward = t .name .forward; within = t .name .within });
         }
 
   module _ (b : isBlock tag ≡ true) (middle : ℕ) (f : BlockFields s (2 * widthOf tag) start end middle) where
     is-block : recordOn s (layoutOf tag start middle end) ≡ r
-    is-block = is middle (block-whole s tag start end q b (2 * widthOf tag) refl middle f)
+    is-block = is s tag start end p q r e middle (block-whole s tag start end q b (2 * widthOf tag) refl middle f)
 
     by-block : Laid s tag start end r
     unfolding rangeSpan handleSpan nameSpan passed
     by-block =
         let t = f .texts in
         let w = 2 * widthOf tag in
-        let i : start + 3 + w ≤ end = omega (arith, t .handle .ends, t .name .ends) in
-        let m : middle ≤ end = omega (arith, t .name .ends) in
+        let i : start + 3 + w ≤ end = f .range .within in
         let a : start + 3 + w + 3 ≡ start + 6 + w = omega arith in
-        let g : innerSpan s start end 0 ≡ spanFromTo (start + 3) (start + 3 + w) = span-at s 0x20 start (start + 3 + w) (f .range) end i start 0 refl in
+        let g : innerSpan s start end 0 ≡ spanFromTo (start + 3) (start + 3 + w) = span-at s end 0x20 start (start + 3 + w) (f .range) start 0 refl in
         let h : innerSpan s start end 1 ≡ spanFromTo (start + 3 + w + 3) middle =
-        span-at s 0x21 (start + 3 + w) middle (t .handle) end m start 1 (pass-one s 0x20 start (start + 3 + w) (f .range) end i 0) in
+        span-at s end 0x21 (start + 3 + w) middle (t .handle) start 1 (pass-one s end 0x20 start (start + 3 + w) (f .range) 0) in
         let n : innerSpan s start end 2 ≡ spanFromTo (middle + 3) (end - 4) =
-        span-at s 0x22 middle (end - 4) (t .name) end (omega arith) start 2
-        (pass-one s 0x20 start (start + 3 + w) (f .range) end i 1 ∙ pass-one s 0x21 (start + 3 + w) middle (t .handle) end m 0) in
+        span-at s end 0x22 middle (end - 4) (t .name) start 2
+        (pass-one s end 0x20 start (start + 3 + w) (f .range) 1 ∙ pass-one s end 0x21 (start + 3 + w) middle (t .handle) 0) in
         record {
           own-tag = sym (ap (λ (z : Record). z .tag) is-block);
           range-inside = λ z. i;
@@ -89,9 +80,9 @@ module _ (s : List ℕ) (tag start end : ℕ) (r : Record) (p : start ≤ end) (
           range-span = rw (b, g) (rw b at (ap (λ (z : Record). z .range) is-block));
           range-span-inside = rw (b, g) (record { forward = omega arith; within = i });
           handle = rw (b, h, a) (rw b at (ap (λ (z : Record). z .handle) is-block));
-          handle-inside = rw (b, h) (record { forward = omega (arith, t .handle .ends); within = m });
+          handle-inside = rw (b, h) (record { forward = t .handle .forward; within = t .handle .within });
           name = rw (b, n) (rw b at (ap (λ (z : Record). z .name) is-block));
-          name-inside = rw (b, n) (record { forward = omega (arith, t .name .ends); within = omega arith });
+          name-inside = rw (b, n) (record { forward = t .name .forward; within = t .name .within });
         }
 
   pub laid : Laid s tag start end r

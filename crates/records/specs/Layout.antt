@@ -1,14 +1,16 @@
 -- Serves contracts and proofs. The parts of a record by its layout: the contents of each field come after a head of three bytes. In a block, field 20 has the size of its
 -- range and field 23 one byte, so that fields 21 and 22 alone have a length of their own.
-use mathlib.Core.Bool.{true, cond}
+use mathlib.Core.Bool.{true, false, cond}
 use mathlib.Core.Path.{_≡_}
 use mathlib.Core.List.{List}
-use Prim.Native.Nat.{ℕ, _+_, _-_, _*_}
+use Prim.Native.Nat.{ℕ, suc, _+_, _-_, _*_}
 use lib.Dec.{eqb}
-use lib.ListN.{length, getD}
+use lib.ListN.{length}
 use lib.Seq.{slice}
-use Rattle.fields.specs.Place.{lengthAt}
-use Rattle.records.specs.Record.{Record, whole, malformed, isBlock, isKnown, widthOf, recordOf, goodContents}
+use Rattle.fields.specs.Place.{fieldAt}
+use Rattle.fields.specs.declared.Field.{Field}
+use Rattle.fields.specs.declared.Field.the-variants as Field
+use Rattle.records.specs.Record.{Record, whole, isBlock, isKnown, widthOf, recordOf, goodContents}
 use Rattle.records.specs.Judge.{bad, judgeAlone}
 use Rattle.records.specs.Place.{Parts, recordAt, Placed}
 use Rattle.records.specs.declared.Span.{Span}
@@ -59,33 +61,27 @@ pub record Readable (s : List ℕ) (l : Layout) : Type 0 where
   pub placed : LaidOut (length s) l
   pub good : goodContents (recordOn s l) ≡ true
 
--- Defect 4 by the heads of the fields
+-- Defect 4 by a reader of what ends at `end`
 
--- a field of the tag stands at a position and ends at `to`
-pub record Stands (s : List ℕ) (tag at to : ℕ) : Type 0 where
-  pub tagged : getD s at 0 ≡ tag
-  pub ends : at + 3 + lengthAt s at ≡ to
+-- where the handle of a record that lies so starts, and where its name ends
+pub record Lying (end : ℕ) (l : Layout) (from to : ℕ) : Type 0 where
+  pub laid : LaidOut end l
+  pub handle : from ≡ partsOf l .handle .start
+  pub name : to ≡ partsOf l .name .end
 
--- fields 21 and 22, from start up to end
-pub record Texts (s : List ℕ) (start end middle : ℕ) : Type 0 where
-  pub handle : Stands s 0x21 start middle
-  pub name : Stands s 0x22 middle end
-
--- field 20 of `size` bytes, fields 21 and 22, and field 23 of one byte
-pub record BlockFields (s : List ℕ) (size start end middle : ℕ) : Type 0 where
-  pub range : Stands s 0x20 start (start + 3 + size)
-  pub texts : Texts s (start + 3 + size) (end - 4) middle
-  pub status : Stands s 0x23 (end - 4) end
-
--- the fields stand so with field 22 at a position, or with none
-abbrev pub ShapedBy : (ℕ → Type 0) → Shape → Type 0
-ShapedBy P (Whole middle) = P middle
-ShapedBy P Malformed = (middle : ℕ) → P middle → ⊥
-
+-- the fields of a record stand so, or are not those of a good one
 abbrev pub Shaped : List ℕ → ℕ → ℕ → ℕ → Shape → Type 0
-Shaped s tag start end Malformed = recordOf tag (slice start end s) ≡ malformed
-Shaped s tag start end (Whole middle) =
-    (recordOf tag (slice start end s) ≡ whole (recordOn s (layoutOf tag start middle end))) × LaidOut (length s) (layoutOf tag start middle end)
+Shaped s tag start end (Whole from middle to) =
+    (recordOf tag (slice start end s) ≡ whole (recordOn s (layoutOf tag start middle end))) × Lying (length s) (layoutOf tag start middle end) from to
+Shaped s tag start end Malformed = (r : Record) → recordOf tag (slice start end s) ≡ whole r → goodContents r ≡ false
+
+-- where the field of a tag ends that is read; past the end, if it has another tag or there is none
+abbrev pub past : ℕ → ℕ → Field → ℕ
+past end tag (Field.Whole t from to) = cond (eqb t tag) to (suc end)
+past end tag Field.Short = suc end
+
+unfoldable pub endPast : List ℕ → ℕ → ℕ → ℕ → ℕ
+endPast s end tag at = past end tag (fieldAt s at end)
 
 -- Defects 3 to 5, whatever the earlier records are
 abbrev pub Judging : List ℕ → ℕ → ℕ → ℕ → Judgement → Type 0

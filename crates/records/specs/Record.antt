@@ -1,5 +1,5 @@
 -- A record, and the rules on one record or two (S4.3 to S4.6; S5.1: defects 4 to 7).
-use mathlib.Core.Bool.{Bool, not, cond, _&&_, _||_}
+use mathlib.Core.Bool.{Bool, true, false, not, cond, _&&_, _||_}
 use mathlib.Core.List.{List, [], _∷_}
 use Prim.Native.Nat.{ℕ, _*_}
 use lib.Dec.{leb, ltb, eqb}
@@ -43,6 +43,10 @@ lastOf r = rangeOf r .last
 pub data Parsed : Type 0 where
   whole : Record → Parsed
   malformed : Parsed
+
+abbrev pub isWhole : Parsed → Bool
+isWhole (whole r) = true
+isWhole malformed = false
 
 -- a row that starts with a field of this tag, and what is made of its contents and of the rest
 abbrev pub following : Head → ℕ → (List ℕ → List ℕ → Parsed) → Parsed

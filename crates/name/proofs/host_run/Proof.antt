@@ -9,10 +9,10 @@ use Rattle.name.proofs.host_run.Statement.{statement}
 use Rattle.name.proofs.host_run.Tie as tie
 
 abbrev Inv-loop : tie.InvT-loop
-Inv-loop s at n good₀ i₀ good i = (i ≤ n) × (good ≡ run (followAt s) at i)
+Inv-loop s step at n good₀ i₀ good i = (i ≤ n) × (good ≡ run (followAt s) at i)
 
 abbrev μ-loop : tie.MeasureT-loop
-μ-loop s at n good₀ i₀ good i = n - i
+μ-loop s step at n good₀ i₀ good i = n - i
 
 loop-holds : tie.Need-loop-holds Inv-loop μ-loop
 unfolding run
@@ -40,7 +40,7 @@ loop-less : tie.Need-loop-less Inv-loop μ-loop
 loop-less c = search needs
 
 loop-again : tie.Need-loop-again Inv-loop μ-loop
-loop-again c = (omega arith, hosts.host-step _ _ _ _ _ (c .before .before .before .before .loop .inv .1) (c .may-follow .ensures))
+loop-again c = (omega arith, hosts.host-step _ _ _ _ _ _ (c .before .before .before .before .before .before .pre .0) (c .before .before .before .before .loop .inv .1) (c .may-follow .ensures))
 
 returns : tie.Need-returns Inv-loop μ-loop
 returns c =

@@ -11,23 +11,16 @@ texts-ok-requires : tie.Need-texts-ok-requires
 texts-ok-requires c κs = search needs
 
 returns : tie.Need-returns
-returns c =
-    let a = c .before .before .before in
-    bad-texts (now (a .args .image)) (a .args .r) (a .pre) (sym (c .before .texts-ok .ensures) ∙ not-true _ (c .if1 .taken))
+returns c = bad-texts (now (c .before .before .before .args .image)) (c .before .before .before .args .r) (c .before .before .before .pre .laid) (sym (c .before .texts-ok .ensures) ∙ not-true _ (c .if1 .taken))
 
 returns-2 : tie.Need-returns-2
-returns-2 c =
-    let a = c .before .before .before .before .before in
-    named-contents (now (a .args .image)) (a .args .r) (a .pre) (sym (c .before .before .before .texts-ok .ensures) ∙ not-false _ (c .before .before .if1 .left)) (c .if2 .taken)
+returns-2 c = named-contents (now (c .before .before .before .before .before .args .image)) (c .before .before .before .before .before .args .r) (c .before .before .before .before .before .pre .laid) (sym (c .before .before .before .texts-ok .ensures) ∙ not-false _ (c .before .before .if1 .left)) (c .if2 .taken)
 
 block-ok-requires : tie.Need-block-ok-requires
 block-ok-requires c κs = search needs
 
 returns-3 : tie.Need-returns-3
-returns-3 c =
-    let a = c .before .before .before .before .before .before in
-    c .block-ok .ensures
-    ∙ block-contents (now (a .args .image)) (a .args .r) (a .pre) (sym (c .before .before .before .before .texts-ok .ensures) ∙ not-false _ (c .before .before .before .if1 .left))
+returns-3 c = c .block-ok .ensures ∙ block-contents (now (c .before .before .before .before .before .before .args .image)) (c .before .before .before .before .before .before .args .r) (c .before .before .before .before .before .before .pre .laid) (sym (c .before .before .before .before .texts-ok .ensures) ∙ not-false _ (c .before .before .before .if1 .left))
 
 pub contents-ok-spec : {M : Type 1} → statement M
 contents-ok-spec =

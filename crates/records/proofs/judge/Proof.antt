@@ -2,56 +2,49 @@
 use mathlib.Core.Path.{sym, _∙_}
 use borrow.Author.Tests.{not-true, not-false}
 use denote.Ref.{now}
-use Rattle.records.proofs.Judgements.{judge-low, judge-high, judge-malformed, laid-out, judge-contents, judge-good}
+use Rattle.records.proofs.Judgements.{judge-low, judge-high, judge-refused, lying, judge-contents, judge-good}
 use borrow.Author.Needs.{needs}
 use Rattle.records.proofs.judge.Statement.{statement}
 use Rattle.records.proofs.judge.Tie as tie
 
 returns : tie.Need-returns
-returns c =
-    let a = c .before .before in
-    judge-low (now (a .args .image)) (a .args .tag) (a .args .start) (a .args .end) (c .if1 .taken)
+returns c = judge-low (now (c .before .before .args .image)) (c .before .before .args .tag) (c .before .before .args .start) (c .before .before .args .end) (c .if1 .taken)
 
 returns-2 : tie.Need-returns-2
-returns-2 c =
-    let a = c .before .before .before in
-    judge-high (now (a .args .image)) (a .args .tag) (a .args .start) (a .args .end) (c .before .if1 .left) (c .if2 .taken)
+returns-2 c = judge-high (now (c .before .before .before .args .image)) (c .before .before .before .args .tag) (c .before .before .before .args .start) (c .before .before .before .args .end) (c .before .if1 .left) (c .if2 .taken)
 
 shape-of-requires : tie.Need-shape-of-requires
 shape-of-requires c κs = search needs
 
-enum-known-middle : tie.Need-enum-known-middle
-enum-known-middle c = search needs
+enum-known-from : tie.Need-enum-known-from
+enum-known-from c = search needs
 
 enum-told : tie.Need-enum-told
 enum-told c = search needs
 
+defect-of-requires : tie.Need-defect-of-requires
+defect-of-requires c κs = search needs
+
 returns-3 : tie.Need-returns-3
 returns-3 c =
-    let a = c .before .before .before .before .before .before in
-    judge-malformed (now (a .args .image)) (a .args .tag) (a .args .start) (a .args .end)
-    (c .before .before .before .before .if1 .left) (c .before .before .before .if2 .left) (c .before .before .shape-of .result) (c .before .before .shape-of .ensures) (c .enum-told .given .1)
+    judge-refused (now (c .before .before .before .before .before .before .before .args .image)) (c .before .before .before .before .before .before .before .args .tag) (c .before .before .before .before .before .before .before .args .start) (c .before .before .before .before .before .before .before .args .end)
+    (c .before .before .before .before .before .if1 .left) (c .before .before .before .before .if2 .left) (c .before .before .before .shape-of .result) (c .before .before .before .shape-of .ensures) (c .before .enum-told .given .1) _ (c .defect-of .ensures)
 
 contents-ok-requires : tie.Need-contents-ok-requires
 contents-ok-requires c κs =
-    let a = c .before .before .before .before .before .before .before in
-    laid-out (now (a .args .image)) (a .args .tag) (a .args .start) (a .args .end)
-    (c .before .before .before .before .before .if1 .left) (c .before .before .before .before .if2 .left) (c .before .before .before .shape-of .result) (c .before .before .before .shape-of .ensures) _ (c .before .middle .given .1)
+    lying (now (c .before .before .before .before .before .before .before .args .image)) (c .before .before .before .before .before .before .before .args .tag) (c .before .before .before .before .before .before .before .args .start) (c .before .before .before .before .before .before .before .args .end)
+    (c .before .before .before .before .before .if1 .left) (c .before .before .before .before .if2 .left) (c .before .before .before .shape-of .result) (c .before .before .before .shape-of .ensures) _ _ _ (c .before .from .given .1)
 
 returns-4 : tie.Need-returns-4
 returns-4 c =
-    let a = c .before .before .before .before .before .before .before .before .before in
-    judge-contents (now (a .args .image)) (a .args .tag) (a .args .start) (a .args .end)
-    (c .before .before .before .before .before .before .before .if1 .left) (c .before .before .before .before .before .before .if2 .left)
-    (c .before .before .before .before .before .shape-of .result) (c .before .before .before .before .before .shape-of .ensures) _ (c .before .before .before .middle .given .1)
+    judge-contents (now (c .before .before .before .before .before .before .before .before .before .args .image)) (c .before .before .before .before .before .before .before .before .before .args .tag) (c .before .before .before .before .before .before .before .before .before .args .start) (c .before .before .before .before .before .before .before .before .before .args .end)
+    (c .before .before .before .before .before .before .before .if1 .left) (c .before .before .before .before .before .before .if2 .left) (c .before .before .before .before .before .shape-of .result) (c .before .before .before .before .before .shape-of .ensures) _ _ _ (c .before .before .before .from .given .1)
     (sym (c .before .contents-ok .ensures) ∙ not-true _ (c .if3 .taken))
 
 returns-5 : tie.Need-returns-5
 returns-5 c =
-    let a = c .before .before .before .before .before .before .before .before .before in
-    judge-good (now (a .args .image)) (a .args .tag) (a .args .start) (a .args .end)
-    (c .before .before .before .before .before .before .before .if1 .left) (c .before .before .before .before .before .before .if2 .left)
-    (c .before .before .before .before .before .shape-of .result) (c .before .before .before .before .before .shape-of .ensures) _ (c .before .before .before .middle .given .1)
+    judge-good (now (c .before .before .before .before .before .before .before .before .before .args .image)) (c .before .before .before .before .before .before .before .before .before .args .tag) (c .before .before .before .before .before .before .before .before .before .args .start) (c .before .before .before .before .before .before .before .before .before .args .end)
+    (c .before .before .before .before .before .before .before .if1 .left) (c .before .before .before .before .before .before .if2 .left) (c .before .before .before .before .before .shape-of .result) (c .before .before .before .before .before .shape-of .ensures) _ _ _ (c .before .before .before .from .given .1)
     (sym (c .before .contents-ok .ensures) ∙ not-false _ (c .if3 .left))
 
 pub judge-spec : {M : Type 1} → statement M
@@ -61,8 +54,9 @@ judge-spec =
     returns
     returns-2
     shape-of-requires
-    enum-known-middle
+    enum-known-from
     enum-told
+    defect-of-requires
     returns-3
     contents-ok-requires
     returns-4

@@ -1,44 +1,79 @@
--- The fields that stand there are the record, by the kind and the width of its tag.
-use borrow.Author.Tests.{eq-eqb, ne-eqb}
+-- As for a block, with fields 21 and 22 alone.
+use mathlib.Core.Path.{sym, _∙_}
+use native.Mathlib.Omega.{arith}
 use denote.Ref.{now}
-use Rattle.records.proofs.Shapes.{named-shaped, block-shaped}
+use Rattle.records.proofs.Shapes.{here, later, over, named-shaped, named-refused}
 use borrow.Author.Needs.{needs}
 use Rattle.records.proofs.shape_of.Statement.{statement}
 use Rattle.records.proofs.shape_of.Tie as tie
 
-named-shape-requires : tie.Need-named-shape-requires
-named-shape-requires c κs = search needs
-
-returns : tie.Need-returns
-returns c =
-    let a = c .before .before .before in
-    named-shaped (now (a .args .image)) (a .args .tag) (a .args .start) (a .args .end) (a .pre .0) (a .pre .1) (c .before .if1 .taken) (c .named-shape .result) (c .named-shape .ensures)
-
 block-shape-requires : tie.Need-block-shape-requires
 block-shape-requires c κs = search needs
 
+returns : tie.Need-returns
+returns c = search needs
+
+step-requires : tie.Need-step-requires
+step-requires c κs = search needs
+
+enum-known-middle : tie.Need-enum-known-middle
+enum-known-middle c = search needs
+
+enum-told : tie.Need-enum-told
+enum-told c = search needs
+
 returns-2 : tie.Need-returns-2
 returns-2 c =
-    let a = c .before .before .before .before in
-    block-shaped (now (a .args .image)) (a .args .tag) (a .args .start) (a .args .end) (a .pre .0) (a .pre .1) (a .pre .2) (c .before .before .if1 .left) 32 (rw (eq-eqb _ _ (c .before .if2 .taken)))
-    (c .block-shape .result) (c .block-shape .ensures)
+    let a = c .before .before .before .before .before in
+    named-refused (now (a .args .image)) (a .args .tag) (a .args .start) (a .args .end) (a .pre .0) (a .pre .1) (omega arith) (here (sym (c .before .before .step .ensures) ∙ c .enum-told .given .1))
 
-block-shape-requires-2 : tie.Need-block-shape-requires-2
-block-shape-requires-2 c κs = search needs
+step-requires-2 : tie.Need-step-requires-2
+step-requires-2 c κs = search needs
+
+enum-known-to : tie.Need-enum-known-to
+enum-known-to c = search needs
+
+enum-told-2 : tie.Need-enum-told-2
+enum-told-2 c = search needs
 
 returns-3 : tie.Need-returns-3
 returns-3 c =
-    let a = c .before .before .before .before in
-    block-shaped (now (a .args .image)) (a .args .tag) (a .args .start) (a .args .end) (a .pre .0) (a .pre .1) (a .pre .2) (c .before .before .if1 .left) 8 (rw (ne-eqb _ _ (c .before .if2 .left)))
-    (c .block-shape2 .result) (c .block-shape2 .ensures)
+    let k1 = c .before .before .before in
+    let a = k1 .before .before .before .before .before .before in
+    named-refused (now (a .args .image)) (a .args .tag) (a .args .start) (a .args .end) (a .pre .0) (a .pre .1) (omega arith)
+    (later (sym (k1 .before .before .before .step .ensures) ∙ k1 .before .middle .given .1) (here (sym (c .before .before .step2 .ensures) ∙ c .enum-told2 .given .1)))
+
+returns-4 : tie.Need-returns-4
+returns-4 c =
+    let k2 = c .before in
+    let k1 = k2 .before .before .before .before in
+    let a = k1 .before .before .before .before .before .before in
+    named-refused (now (a .args .image)) (a .args .tag) (a .args .start) (a .args .end) (a .pre .0) (a .pre .1) (omega arith) (later (sym (k1 .before .before .before .step .ensures) ∙ k1 .before .middle .given .1) (later (sym (k2 .before .before .before .step2 .ensures) ∙ k2 .before .to .given .1) (over (c .if2 .taken))))
+
+add-t10 : tie.Need-add-t10
+add-t10 c = search needs
+
+returns-5 : tie.Need-returns-5
+returns-5 c =
+    let k2 = c .before in
+    let k1 = k2 .before .before .before .before in
+    let a = k1 .before .before .before .before .before .before in
+    named-shaped (now (a .args .image)) (a .args .tag) (a .args .start) (a .args .end) (a .pre .0) (a .pre .1) (omega arith) _ _ (sym (k1 .before .before .before .step .ensures) ∙ k1 .before .middle .given .1) (sym (k2 .before .before .before .step2 .ensures) ∙ k2 .before .to .given .1) (c .if2 .left)
 
 pub shape-of-spec : {M : Type 1} → statement M
 shape-of-spec =
     tie.close
     (tie.spec
-    named-shape-requires
-    returns
     block-shape-requires
+    returns
+    step-requires
+    enum-known-middle
+    enum-told
     returns-2
-    block-shape-requires-2
-    returns-3)
+    step-requires-2
+    enum-known-to
+    enum-told-2
+    returns-3
+    returns-4
+    add-t10
+    returns-5)
