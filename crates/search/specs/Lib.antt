@@ -1,4 +1,3 @@
 pub mod Search
 pub mod Picks
-pub mod Seeking
 pub mod Computing

@@ -9,9 +9,9 @@ use lib.ListN.{length, take, length-set}
 use denote.Ref.{now}
 use Rattle.image.specs.Index.{Selected}
 use Rattle.listing.proofs.Emit.{one-more}
 use Rattle.search.proofs.Picks.{few, in-image, text-inside, foundFrom, turn, before-run, all-found}
-use Rattle.search.proofs.collect.Statement.{statement}
-use Rattle.search.proofs.collect.Tie as tie
+use Rattle.by_pattern.proofs.collect.Statement.{statement}
+use Rattle.by_pattern.proofs.collect.Tie as tie
 
 abbrev Inv-loop : tie.InvT-loop
 Inv-loop image places run which fold form pattern hits₀ n₀ i₀ hits n i =

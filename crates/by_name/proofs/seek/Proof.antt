@@ -7,10 +7,10 @@ use borrow.Author.Needs.{needs}
 use Rattle.address.proofs.Order.{told-first, told-second, told-equal}
 use Rattle.image.specs.Index.{Selected}
 use Rattle.entries.proofs.Halves.{Sorted, Halved, halve-none, halve-up, halve-down}
 use Rattle.search.proofs.Picks.{few, in-image, text-inside}
-use Rattle.search.proofs.Seeking.{Before, Behind, keys-sorted, none-found, one-found, Left, at-start, step-allowed, step-taken}
-use Rattle.search.proofs.seek.Statement.{statement}
-use Rattle.search.proofs.seek.Tie as tie
+use Rattle.by_name.proofs.Seeking.{Before, Behind, keys-sorted, none-found, one-found, Left, at-start, step-allowed, step-taken}
+use Rattle.by_name.proofs.seek.Statement.{statement}
+use Rattle.by_name.proofs.seek.Tie as tie
 
 abbrev Inv-loop : tie.InvT-loop
 Inv-loop image places wanted which low₀ high₀ steps₀ low high steps =

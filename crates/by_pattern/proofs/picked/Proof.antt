@@ -2,8 +2,8 @@
 use mathlib.Core.Path.{ap, _∙_}
 use borrow.Author.Needs.{needs}
 use Rattle.pattern.specs.Pattern.{matchesForm}
-use Rattle.search.proofs.picked.Statement.{statement}
-use Rattle.search.proofs.picked.Tie as tie
+use Rattle.by_pattern.proofs.picked.Statement.{statement}
+use Rattle.by_pattern.proofs.picked.Tie as tie
 
 text-at-requires : tie.Need-text-at-requires
 text-at-requires c κs = search needs

@@ -2,9 +2,9 @@
 use mathlib.Core.Path.{sym, _∙_}
 use borrow.Author.Needs.{needs}
 use denote.Ref.{now}
 use Rattle.search.proofs.Picks.{matched}
-use Rattle.search.proofs.matching.Statement.{statement}
-use Rattle.search.proofs.matching.Tie as tie
+use Rattle.by_pattern.proofs.matching.Statement.{statement}
+use Rattle.by_pattern.proofs.matching.Tie as tie
 
 folds-case-requires : tie.Need-folds-case-requires
 folds-case-requires c κs = search needs

@@ -8,8 +8,8 @@ use Rattle.image.specs.Image.{imageOf}
 use Rattle.image.specs.Part.{recordsOf}
 use Rattle.image.specs.declared.Run.{Run}
 use Rattle.listing.specs.Listing.{foundNumbers}
 use Rattle.search.specs.Search.{numbersFrom, isCalled}
-use Rattle.search.specs.declared.Sought.{Sought}
+use Rattle.by_name.specs.declared.Sought.{Sought}
 
 -- S4.6: the records with the tags from first to last are sorted by this text.
 pub data SortedBy : (first last : ℕ) → Text → Type 0 where

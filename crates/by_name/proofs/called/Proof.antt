@@ -1,8 +1,8 @@
 -- What was sought is reported.
 use borrow.Author.Needs.{needs}
 use Rattle.listing.proofs.Reports.{same-reported}
-use Rattle.search.proofs.called.Statement.{statement}
-use Rattle.search.proofs.called.Tie as tie
+use Rattle.by_name.proofs.called.Statement.{statement}
+use Rattle.by_name.proofs.called.Tie as tie
 
 seek-requires : tie.Need-seek-requires
 seek-requires c κs = search needs

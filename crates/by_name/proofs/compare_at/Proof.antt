@@ -5,8 +5,8 @@ use Prim.Native.Nat.{ℕ}
 use borrow.Author.Needs.{needs}
 use denote.Ref.{now}
 use Rattle.address.specs.Order.{compared}
-use Rattle.search.proofs.compare_at.Statement.{statement}
-use Rattle.search.proofs.compare_at.Tie as tie
+use Rattle.by_name.proofs.compare_at.Statement.{statement}
+use Rattle.by_name.proofs.compare_at.Tie as tie
 
 add-steps : tie.Need-add-steps
 add-steps c = search needs

@@ -1,8 +1,8 @@
 -- What was collected is reported.
 use borrow.Author.Needs.{needs}
 use Rattle.listing.proofs.Reports.{in-hits, as-many, few-reported, reported}
-use Rattle.search.proofs.list_picked.Statement.{statement}
-use Rattle.search.proofs.list_picked.Tie as tie
+use Rattle.by_pattern.proofs.list_picked.Statement.{statement}
+use Rattle.by_pattern.proofs.list_picked.Tie as tie
 
 collect-requires : tie.Need-collect-requires
 collect-requires c κs = search needs

@@ -25,9 +25,9 @@ use Rattle.image.specs.declared.Run.{Run}
 use Rattle.image.specs.declared.Which.{Which}
 use Rattle.entries.proofs.Halves.{Sorted, by-neighbours, Halved, fewer}
 use Rattle.entries.proofs.Tags.{record-follows}
 use Rattle.search.specs.Search.{numbersFrom, whichOf, fieldOf, isCalled}
-use Rattle.search.specs.Seeking.{SortedBy, domains, nameservers, entities}
+use Rattle.by_name.specs.Seeking.{SortedBy, domains, nameservers, entities}
 use Rattle.search.proofs.Picks.{stands, text-here, foundFrom, turn, passed, before-run, behind-run}
 
 -- the text of record i, where the index says that it stands
 abbrev pub keyAt : List ℕ → List ℕ → Which → ℕ → List ℕ
