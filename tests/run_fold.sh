@@ -4,24 +4,9 @@
 # Prints each test that failed, and last how many passed and failed.
 set -u
 shopt -s extglob
-if [ $# -ne 1 ] || [ ! -x "$1" ]; then
-    echo "usage: $0 PROGRAM" >&2
-    exit 2
-fi
-program=$(realpath "$1")
-tests=$(realpath "$(dirname "$0")")
-vectors=$tests/vectors
-. "$tests/tally.sh"
-# in memory where that can be had: the program waits until a file has reached its device
-work=$(mktemp -d -p /dev/shm 2>/dev/null) || work=$(mktemp -d)
-trap 'rm -rf "$work"' EXIT
-mkdir "$work/in" && cd "$work/in" || exit 1
+. "$(dirname "$0")/tally.sh"
+under_test "$@"
 umask 022
-
-# bytes HEX FILE: makes a file of these bytes
-bytes() {
-    printf "$(sed 's/../\\x&/g' <<<"$1")" >"$2"
-}
 
 # run ARGUMENTS..: the program; what it writes, what it tells, and the files in the folder afterwards
 run() {

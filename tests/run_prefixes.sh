@@ -3,17 +3,9 @@
 # usage: tests/run_prefixes.sh PROGRAM, as target/bin/rdap_prefixes
 # Prints each test that failed, and last how many passed and failed.
 set -u
-if [ $# -ne 1 ] || [ ! -x "$1" ]; then
-    echo "usage: $0 PROGRAM" >&2
-    exit 2
-fi
-program=$(realpath "$1")
-tests=$(realpath "$(dirname "$0")")
-vectors=$tests/vectors
-. "$tests/tally.sh"
-work=$(mktemp -d)
-trap 'rm -rf "$work"' EXIT
-mkdir "$work/in" "$work/expected" && cd "$work/in" || exit 1
+. "$(dirname "$0")/tally.sh"
+under_test "$@"
+mkdir "$work/expected" || exit 1
 formats='plain cisco bird juniper json'
 
 # run ARGUMENTS..: the program; what it writes and what it tells
@@ -47,11 +39,6 @@ beside() {
     else
         writes "$@"
     fi
-}
-
-# bytes HEX FILE: makes a file of these bytes
-bytes() {
-    printf "$(sed 's/../\\x&/g' <<<"$1")" >"$2"
 }
 
 # network TAG RANGE HANDLE STATUS: such a record, in hex

@@ -21,7 +21,7 @@ use Rattle.numeral.proofs.Spelled.{text-lacks, split-spelled, spelled-least}
 use Rattle.ip.specs.Ip.{prefixed, joined, exactly, oneByte, octets, ipv4, groups, side, elided, elisionFirst, elision, ipv6}
 use Rattle.ip.proofs.GroupLaws.{group-bytes, last-group, side-groups}
 use Rattle.ip_text.specs.Text.{dotted, colons}
-use Rattle.ip_text.specs.Groups.{bytesOf}
+use Rattle.ip_groups.specs.Runs.{bytesOf}
 
 -- ---- IPv4
 

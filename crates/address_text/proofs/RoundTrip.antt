@@ -9,7 +9,7 @@ use native.Mathlib.Decide.{ℕ-discrete}
 use lib.Dec.{eqb, leb, ltb}
 use lib.ListN.{length, getD, take, drop, replicate, length-drop}
 use lib.Seq.{drop-cons, take-at}
-use borrow.Author.Tests.{eqb-true, le-leb, lt-leb, leb-true, ltb-false}
+use borrow.Author.Tests.{eqb-true, le-leb, lt-leb, leb-true}
 use Rattle.address.specs.Lists.{contains}
 use Rattle.address.specs.Number.{Digits, Bytes}
 use Rattle.address.specs.Positions.{Wide}
@@ -25,10 +25,11 @@ use Rattle.ip.specs.Ip.{prefixed, joined, twoBytes, group, orElse, lastGroup, g
 use Rattle.ip.proofs.Answers.{address-four, address-wide}
 use Rattle.ip.proofs.Foreign.{ipv4-not, ipv6-not}
 use Rattle.ip.proofs.Zones.{zones}
-use Rattle.ip_text.specs.Text.{dotted, colons, groupsOf, zerosFirst, longestRun, runAt, shortened, isMapped, ipv6Text, textOf}
-use Rattle.ip_text.specs.Groups.{bytesOf}
-use Rattle.ip_text.proofs.Groups.{groups-count, groups-below}
-use Rattle.ip_text.proofs.Runs.{zeros-front, around-run, beside-run}
+use Rattle.ip_groups.specs.Groups.{groupsOf, zerosFirst, longestRun, runAt}
+use Rattle.ip_text.specs.Text.{dotted, colons, shortened, isMapped, ipv6Text, textOf}
+use Rattle.ip_groups.specs.Runs.{bytesOf}
+use Rattle.ip_groups.proofs.Groups.{groups-count, groups-below}
+use Rattle.ip_groups.proofs.Runs.{zeros-front, around-run, beside-run}
 use Rattle.ip_text.proofs.Lengths.{ipv4-text, ipv6-text, text-most4, text-most16}
 use Rattle.address_text.specs.Call.{isAddress, writtenOf, textAfter}
 use Rattle.address_text.specs.Spelling.{WrittenForm}
@@ -234,8 +235,7 @@ written-back a text b e = by-test (isAddress a) refl (ltb (length text) (length 
     by-test false p t q = absurd (six (rw p at e))
     by-test true p true q = absurd (nine (rw (p, q) at e))
     by-test true p false q =
-        let fits : length (textOf a) ≤ length text = ltb-false (length text) (length (textOf a)) q in
-        rw (p, le-leb (length (textOf a)) (length text) fits, take-at (textOf a) (drop (length (textOf a)) text) (length (textOf a)) refl) (back a b (is-wide a p))
+        rw (p, q, take-at (textOf a) (drop (length (textOf a)) text) (length (textOf a)) refl) (back a b (is-wide a p))
 
 pub written-form : WrittenForm
 written-form =

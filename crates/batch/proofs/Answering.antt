@@ -27,9 +27,9 @@ use Rattle.calls.specs.Calls.{answerIn}
 use Rattle.calls.specs.Replies.{Consistent}
 use Rattle.calls.proofs.Asking.{on-sound}
 use Rattle.calls.proofs.Replies.{first-consistent, reported-all}
-use Rattle.batch.specs.Batch.{pathsOf, lines, answersIn, ofAnswers, batchIn}
+use Rattle.batches.specs.Batch.{pathsOf, lines, answersIn, ofAnswers, batchIn}
 use Rattle.batch.specs.Answering.{Answering}
-use Rattle.batch.proofs.Batches.{length-line, stop, no-paths, onward, line-fits, few-answers}
+use Rattle.batches.proofs.Theorem.{length-line, stop, no-paths, onward, line-fits, few-answers}
 
 -- One answer: its record numbers go to the rest of the list after four places, then its four numbers to these
 

@@ -5,7 +5,7 @@ use mathlib.Core.List.{List}
 use lib.ListN.{length}
 use Rattle.listing.specs.Writing.{over}
 use Rattle.answers.specs.Reply.{Reply}
-use Rattle.batch.specs.Batch.{lines}
+use Rattle.batches.specs.Batch.{lines}
 
 -- so many answers are written, and the rest is unchanged
 pub record Answering (replies : List Reply) (before after : List ℕ) (n : ℕ) : Type 0 where

@@ -1,5 +1,1 @@
-pub mod Batch
-pub mod Batches
 pub mod Answering
-pub mod Cases
-pub mod Computing

@@ -9,7 +9,7 @@ ghost use Rattle.listing.specs.Writing.{Written};
 ghost use Rattle.answers.specs.Reply.{line};
 ghost use Rattle.answers.specs.Answered.{replyOf, Answered};
 ghost use Rattle.calls.specs.Calls.{answerIn};
-ghost use Rattle.batch.specs.Batch.{pathsOf, answersIn, batchIn};
+ghost use Rattle.batches.specs.Batch.{pathsOf, answersIn, batchIn};
 ghost use Rattle.batch.specs.Answering.{Answering};
 use answers::Answer;
 use query::Kind;

@@ -8,9 +8,9 @@ use Rattle.address.specs.Positions.{Wide}
 use Rattle.numeral.specs.Digits.{decimalText}
 use Rattle.numeral.proofs.Digits.{text-few}
 use Rattle.cidr.specs.Prefixes.{Prefix}
-use Rattle.prefixes.specs.Call.{bigEndian}
-use Rattle.prefixes.proofs.Bytes.{length-bytes, bytes-small}
-use Rattle.prefixes.proofs.Writing.{at-most-sixteen}
+use Rattle.prefix_bytes.specs.Entry.{bigEndian}
+use Rattle.prefix_bytes.proofs.Bytes.{length-bytes, bytes-small}
+use Rattle.prefix_bytes.proofs.Widths.{at-most-sixteen}
 use Rattle.ip_text.specs.Text.{textOf}
 use Rattle.ip_text.proofs.Lengths.{text-most}
 use Rattle.layouts.specs.Layout.{Layout, endOf}

@@ -17,7 +17,7 @@ use Rattle.listing.proofs.Writing.{written-nothing}
 use Rattle.prefixes.specs.Call.{IpRange, ipRange, ipRangeOf, prefixesIn, entriesIn, prefixedOf, bufferAfter}
 use Rattle.listing.specs.declared.Counted.{Counted}
 use Rattle.prefixes.proofs.Answers.{answers-shortest}
-use Rattle.prefixes.proofs.Writing.{by-width, length-entries}
+use Rattle.prefix_bytes.proofs.Widths.{by-width, length-entries}
 use Rattle.layouts.specs.declared.Format.{Format}
 use Rattle.layouts.specs.Layout.{Layout, nameIn, layoutOf}
 use Rattle.filters.specs.Filter.{rowsOf, laidOut, networkText, filterText, room, textIn}

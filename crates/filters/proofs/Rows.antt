@@ -6,8 +6,8 @@ use native.Mathlib.Omega.{arith}
 use lib.ListN.{length, take, drop, getD, length-append, length-take, length-drop}
 use lib.Seq.{take-at, drop-at, drop-drop, getD-at, getD-drop}
 use Rattle.cidr.specs.Prefixes.{Prefix}
-use Rattle.prefixes.specs.Call.{bigEndian, entryOf, entriesOf}
-use Rattle.prefixes.proofs.Bytes.{length-bytes}
+use Rattle.prefix_bytes.specs.Entry.{bigEndian, entryOf, entriesOf}
+use Rattle.prefix_bytes.proofs.Bytes.{length-bytes}
 use Rattle.layouts.specs.Layout.{Layout, endOf}
 use Rattle.filters.specs.Filter.{prefixText, rowsOf}
 use Rattle.layouts.specs.Styles.{layoutAt}

@@ -7,7 +7,8 @@ use lib.Dec.{ltb}
 use lib.ListN.{length}
 use Rattle.numeral.specs.Digits.{decimalText}
 use Rattle.cidr.specs.Prefixes.{Prefix}
-use Rattle.prefixes.specs.Call.{IpRange, ipRangeOf, prefixesIn, bigEndian}
+use Rattle.prefix_bytes.specs.Entry.{bigEndian}
+use Rattle.prefixes.specs.Call.{IpRange, ipRangeOf, prefixesIn}
 use Rattle.ip_text.specs.Text.{textOf}
 use Rattle.layouts.specs.declared.Format.{Format}
 use Rattle.layouts.specs.Layout.{Layout, nameIn, layoutOf, endOf}

@@ -1,5 +1,5 @@
 -- The answers of the call.
-use mathlib.Core.Path.{_≡_, refl, sym, _∙_, ap, subst}
+use mathlib.Core.Path.{_≡_, refl, sym, _∙_, ap}
 use mathlib.Core.Bool.{Bool, true, false, cond}
 use mathlib.Core.List.{List, [], _++_}
 use Prim.Native.Nat.{ℕ, _+_, _≤_, _<_}
@@ -13,24 +13,17 @@ use Rattle.records.specs.Record.{Record}
 use Rattle.image.specs.Image.{sound, startsRight, imageOf}
 use Rattle.image.specs.Part.{recordsOf}
 use Rattle.image.specs.Place.{verdictOf}
-use Rattle.image.specs.Index.{Indexed}
 use Rattle.image.specs.declared.Verdict.{Verdict}
 use Rattle.image.specs.declared.Verdict.the-variants.{Sound, Defective}
 use Rattle.image.proofs.Soundness.{is-sound, is-defective}
 use Rattle.rows.specs.Entry.{Entry, entriesOf, rowOf}
-use Rattle.rows.proofs.Images.{length-of, entries-good}
-use Rattle.rows.proofs.Rows.{parsed-entries}
-use Rattle.rows.proofs.Ordering.{sound-ordered}
-use Rattle.merged.specs.Held.{bytesAt, entriesAt, Held}
-use Rattle.merged.proofs.Rows.{index-entries}
+use Rattle.rows.proofs.Images.{length-of}
+use Rattle.merged.specs.Held.{bytesAt, entriesAt}
 use Rattle.changes.specs.Change.{Changed, done, refusedAt, changesOf}
 use Rattle.changes.specs.Fold.{badImage, badChange, noRoom, fits, finished, afterChanges, foldOf, afterImage}
 use Rattle.listing.specs.Writing.{Written}
 use Rattle.listing.proofs.Writing.{Parted, written-over}
-use Rattle.applying.specs.Steps.{AppliedTo}
-use Rattle.applying.specs.declared.Applied.{Applied}
-use Rattle.applying.specs.declared.Applied.the-variants.{Done, RefusedAt}
-use Rattle.fold.specs.Final.{changedIn, ChangedTo}
+use Rattle.final_list.specs.Final.{changedIn}
 use Rattle.fold.specs.Call.{foldedOf, counting, Gives}
 use Rattle.fold.specs.declared.Folded.{Folded}
 
@@ -72,32 +65,6 @@ module _ (image changes index : List ℕ) (n : ℕ) (h : n ≤ length index) {i 
   no-record l =
       let all : length (take n index) ≤ i = omega (arith, length-take n index) in
       rw (drop-of-length-le (take n index) all)
-
--- The changes
-
--- the index of a sound image holds its records
-module _ (image changes places index : List ℕ) (count : ℕ) (x : Indexed image count places) (e : take count index ≡ take count places) where
-  before-changes : entriesAt image changes (take count index) ≡ entriesOf (recordsOf (imageOf image)) (drop 4 image)
-  before-changes = ap (entriesAt image changes) e ∙ index-entries image places count x changes
-
-  pub index-held : Held image changes (take count index)
-  index-held =
-      let s = is-sound (imageOf image) count (x .sound) in
-      record {
-        good = rw before-changes (entries-good image (recordsOf (imageOf image)) s);
-        ordered = rw (before-changes, parsed-entries (recordsOf (imageOf image)) (drop 4 image)) (sound-ordered image (recordsOf (imageOf image)) s);
-      }
-
-  module _ (h : length changes ≤ 65536) (after : List ℕ) where
-    changed-is : changedIn image changes (recordsOf (imageOf image)) ≡ changesOf (entriesAt image changes (take count index)) changes
-    changed-is = rw (le-leb (length changes) 65536 h) (ap (λ (es : List Entry). changesOf es changes) (sym before-changes))
-
-    pub changed-to : (r : Applied) → AppliedTo image changes (entriesAt image changes (take count index)) after r → ChangedTo image changes after r
-    changed-to (Done n) a = (changed-is ∙ a .0, a .1, a .2, h)
-    changed-to (RefusedAt offset) a = (changed-is ∙ a .0, omega (arith, a .1))
-
-pub changed-long : (image changes after : List ℕ) → 65536 < length changes → ChangedTo image changes after (RefusedAt 0)
-changed-long image changes after h = (rw (lt-leb (length changes) 65536 h), omega arith)
 
 -- The call
 

@@ -1,2 +1,1 @@
 pub mod Finals
-pub mod Numbered

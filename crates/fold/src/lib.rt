@@ -10,14 +10,12 @@ ghost use Rattle.listing.specs.Writing.{Written};
 ghost use Rattle.rows.specs.Entry.{rowOf};
 ghost use Rattle.changes.specs.Fold.{badImage, badChange, foldOf};
 ghost use Rattle.merged.specs.Held.{entriesAt, Held};
-ghost use Rattle.fold.specs.Final.{ChangedTo, finalRecord};
 ghost use Rattle.fold.specs.Call.{foldedOf, outAfter, counting, Gives, Finished};
 use applying::Applied;
-use applying::apply;
+use final_list::changed;
 use image::Verdict;
 use image::index;
 use listing::put_bytes;
-use merged::note_places;
 use merged::record_at;
 use merged::size_of;
 use overlaps::final_verdict;
@@ -112,24 +110,6 @@ fn finish<'a>(
     counted(0, (4 + rest) as u32)
 }
 
-// The changes applied to a sound image, whose index is handed in. The index of the records afterwards is noted.
-fn changed<'a>(
-    image: &'a [u8],
-    changes: &'a [u8],
-    places: &mut [u32; 4096],
-    count: usize,
-    index: &mut [u32; 9600],
-) -> Applied
-    requires { ⌜ Indexed (now image) count (now places) × (length (now index) ≡ 9600) ⌝ }
-    ensures { λ r. ⌜ ChangedTo (now (image .entry)) (now (changes .entry)) (now (index .exit)) r × (length (now (index .exit)) ≡ 9600) ⌝ }
-{
-    if 65536 < changes.len() {
-        return Applied::RefusedAt(0);
-    }
-    note_places(places, count, index);
-    apply(image, changes, index, count, places)
-}
-
 // The fold of a sound image, whose index is handed in.
 fn fold_sound<'a>(
     image: &'a [u8],
@@ -156,39 +136,5 @@ pub fn fold<'a>(image: &'a [u8], changes: &'a [u8], out: &mut [u8]) -> Folded
     match index(image, &mut places) {
         Verdict::Defective(defect, place) => bad_image(2, defect, place),
         Verdict::Sound(count) => fold_sound(image, changes, &mut places, count as usize, out),
-    }
-}
-
-// A record of the final list by its number: its bytes, none where there is no such record. The image is sound, and its index is handed in.
-fn record_after<'a>(
-    image: &'a [u8],
-    changes: &'a [u8],
-    places: &mut [u32; 4096],
-    count: usize,
-    number: usize,
-) -> &'a [u8]
-    requires { ⌜ Indexed (now image) count (now places) ⌝ }
-    ensures { λ r. ⌜ now r ≡ finalRecord (now (image .entry)) (now (changes .entry)) number ⌝ }
-{
-    let mut index = [0u32; 9600];
-    match changed(image, changes, places, count, &mut index) {
-        Applied::RefusedAt(_) => &image[0..0],
-        Applied::Done(n) => {
-            if n <= number {
-                return &image[0..0];
-            }
-            record_at(image, changes, index[number])
-        }
-    }
-}
-
-// The same of any image: none where it is defective, or a change is at fault.
-pub fn final_record<'a>(image: &'a [u8], changes: &'a [u8], number: usize) -> &'a [u8]
-    ensures { λ r. ⌜ now r ≡ finalRecord (now (image .entry)) (now (changes .entry)) number ⌝ }
-{
-    let mut places = [0u32; 4096];
-    match index(image, &mut places) {
-        Verdict::Defective(_, _) => &image[0..0],
-        Verdict::Sound(count) => record_after(image, changes, &mut places, count as usize, number),
     }
 }

@@ -9,9 +9,10 @@ use borrow.Author.Tests.{le-leb, lt-leb, eq-eqb, ne-eqb}
 use Rattle.pieces.specs.Ascii.{ascii}
 use Rattle.pieces.proofs.Pieces.{rest-is}
 use Rattle.pieces.proofs.Tests.{and-false}
-use Rattle.ip_text.specs.Text.{dotted, colons, groupsOf, zerosFirst, longestRun, runAt, shortened, isMapped, ipv6Text}
-use Rattle.ip_text.specs.Groups.{RunsOf}
-use Rattle.ip_text.proofs.Runs.{beside-run}
+use Rattle.ip_groups.specs.Groups.{groupsOf, zerosFirst, longestRun, runAt}
+use Rattle.ip_text.specs.Text.{dotted, colons, shortened, isMapped, ipv6Text}
+use Rattle.ip_groups.specs.Runs.{RunsOf}
+use Rattle.ip_groups.proofs.Runs.{beside-run}
 
 -- groups with their longest run, and its place
 module _ (gs : List ℕ) (longest at : ℕ) (most : longest ≡ longestRun gs) (place : at ≡ runAt (longestRun gs) gs) where

@@ -13,9 +13,10 @@ use Rattle.address.specs.Positions.{Wide}
 use Rattle.address.proofs.Below.{digits-take, digits-drop}
 use Rattle.pieces.specs.Ascii.{ascii}
 use Rattle.numeral.proofs.Spelled.{spelled-most, spelled-bound}
-use Rattle.ip_text.specs.Text.{dotted, colons, groupsOf, longestRun, runAt, shortened, isMapped, ipv6Text, textOf}
-use Rattle.ip_text.proofs.Groups.{groups-count, groups-below}
-use Rattle.ip_text.proofs.Runs.{beside-run}
+use Rattle.ip_groups.specs.Groups.{groupsOf, longestRun, runAt}
+use Rattle.ip_text.specs.Text.{dotted, colons, shortened, isMapped, ipv6Text, textOf}
+use Rattle.ip_groups.proofs.Groups.{groups-count, groups-below}
+use Rattle.ip_groups.proofs.Runs.{beside-run}
 
 pub dotted-most : (a : List ℕ) → Bytes a → length a ≡ 4 → length (dotted a) ≤ 15
 dotted-most [] b e = absurd (omega arith)

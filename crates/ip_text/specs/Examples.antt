@@ -6,7 +6,7 @@ use mathlib.Core.List.{List, [], _∷_, map}
 use lib.ListN.{length, replicate}
 use Rattle.pieces.specs.Ascii.{ascii}
 use Rattle.ip_text.specs.Text.{textOf}
-use Rattle.ip_text.specs.Groups.{bytesOf}
+use Rattle.ip_groups.specs.Runs.{bytesOf}
 use Rattle.ip_text.specs.Computing.{computing}
 
 pub record Case : Type 0 where

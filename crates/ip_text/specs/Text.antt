@@ -1,12 +1,13 @@
 -- S2.9: the text of an address: IPv4 as four decimals, IPv6 in the form of RFC 5952.
-use Prim.Native.Nat.{ℕ, suc, _+_, _*_, max}
+use Prim.Native.Nat.{ℕ, _+_}
 use Prim.Native.Char.{code}
-use mathlib.Core.List.{List, [], _∷_, _++_}
+use mathlib.Core.List.{List, _++_}
 use mathlib.Core.Bool.{Bool, cond, _&&_}
 use lib.Dec.{eqb, leb}
 use lib.ListN.{length, getD, take, drop}
 use Rattle.pieces.specs.Ascii.{ascii}
 use Rattle.numeral.specs.Digits.{spelled}
+use Rattle.ip_groups.specs.Groups.{groupsOf, zerosFirst, longestRun, runAt}
 
 -- "IPv4 is four decimals": separated by dots
 abbrev pub dotted : List ℕ → List ℕ
@@ -15,27 +16,6 @@ dotted = spelled (code ".") 10
 -- groups of hex digits, in lower case and without leading zeros, separated by colons
 abbrev pub colons : List ℕ → List ℕ
 colons = spelled (code ":") 16
-
--- the groups of an IPv6 address: two bytes each, high byte first
-unfoldable pub groupsOf : List ℕ → List ℕ
-groupsOf [] = []
-groupsOf (h ∷ []) = []
-groupsOf (h ∷ l ∷ s) = (h * 256 + l) ∷ groupsOf s
-
--- how many zeros stand first
-unfoldable pub zerosFirst : List ℕ → ℕ
-zerosFirst [] = 0
-zerosFirst (g ∷ gs) = let more : ℕ = suc (zerosFirst gs) in cond (eqb g 0) more 0
-
--- the length of the longest run of zeros
-unfoldable pub longestRun : List ℕ → ℕ
-longestRun [] = 0
-longestRun (g ∷ gs) = max (zerosFirst (g ∷ gs)) (longestRun gs)
-
--- where the first n zeros in a row stand
-unfoldable pub runAt : ℕ → List ℕ → ℕ
-runAt n [] = 0
-runAt n (g ∷ gs) = let later : ℕ = suc (runAt n gs) in cond (leb n (zerosFirst (g ∷ gs))) 0 later
 
 -- "longest run of at least two zero groups shortened, the first of equal ones"
 unfoldable pub shortened : List ℕ → List ℕ

@@ -7,19 +7,15 @@ ghost use Rattle.pieces.specs.Ascii.{ascii};
 ghost use Rattle.address.specs.Positions.{Wide};
 ghost use Rattle.numeral.specs.Digits.{spelled};
 ghost use Rattle.listing.specs.Writing.{Written};
-ghost use Rattle.ip_text.specs.Text.{colons, dotted, groupsOf, longestRun, runAt, shortened, ipv6Text, textOf};
+ghost use Rattle.ip_groups.specs.Groups.{longestRun, runAt};
+ghost use Rattle.ip_text.specs.Text.{colons, dotted, shortened, ipv6Text, textOf};
 ghost use Rattle.digits.specs.Base.{radix};
-ghost use Rattle.ip_text.specs.Groups.{RunsOf};
 use digits::Base;
 use digits::put_spelled;
+use ip_groups::groups_of;
+use ip_groups::octets_of;
+use ip_groups::zero_runs;
 use listing::put_bytes;
-
-// The zeros that stand first, and the longest run of zeros with its place.
-struct ZeroRuns {
-    first: usize,
-    longest: usize,
-    at: usize,
-}
 
 // Given bytes, and numbers in the rest of the text after them.
 fn put_after(front: &[u8], sep: u8, base: Base, numbers: &[u32], text: &mut [u8]) -> usize
@@ -29,63 +25,6 @@ fn put_after(front: &[u8], sep: u8, base: Base, numbers: &[u32], text: &mut [u8]
     let at = put_bytes(front, text);
     at + put_spelled(sep, base, numbers, &mut text[at..])
 }
-
-// ---- an address as numbers
-
-// The four numbers of an IPv4 address.
-fn octets_of(bytes: &[u8]) -> [u32; 4]
-    requires { ⌜ length (now bytes) ≡ 4 ⌝ }
-    ensures { λ r. ⌜ r ≡ now (bytes .entry) ⌝ }
-{
-    let mut octets = [0u32; 4];
-    let mut i: usize = 0;
-    while i < 4 {
-        octets[i] = bytes[i] as u32;
-        i += 1;
-    }
-    octets
-}
-
-// The eight groups of an IPv6 address.
-fn groups_of(bytes: &[u8]) -> [u32; 8]
-    requires { ⌜ length (now bytes) ≡ 16 ⌝ }
-    ensures { λ r. ⌜ r ≡ groupsOf (now (bytes .entry)) ⌝ }
-{
-    let mut groups = [0u32; 8];
-    let mut i: usize = 0;
-    while i < 8 {
-        let high = bytes[2 * i] as u32;
-        let low = bytes[2 * i + 1] as u32;
-        groups[i] = high * 256 + low;
-        i += 1;
-    }
-    groups
-}
-
-// One pass over the groups, from the last to the first.
-fn zero_runs(groups: &[u32]) -> ZeroRuns
-    ensures { λ r. ⌜ RunsOf (now (groups .entry)) (r .first) (r .longest) (r .at) ⌝ }
-{
-    let mut first: usize = 0;
-    let mut longest: usize = 0;
-    let mut at = groups.len();
-    let mut i = groups.len();
-    while 0 < i {
-        i -= 1;
-        if groups[i] == 0 {
-            first += 1;
-        } else {
-            first = 0;
-        }
-        if longest <= first {
-            longest = first;
-            at = i;
-        }
-    }
-    ZeroRuns { first, longest, at }
-}
-
-// ---- texts
 
 // Groups, "::" and groups.
 fn put_elided(left: &[u32], right: &[u32], text: &mut [u8]) -> usize

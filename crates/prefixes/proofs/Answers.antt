@@ -19,11 +19,12 @@ use Rattle.cidr.specs.Shortest.{Shortest}
 use Rattle.cidr.proofs.Theorem.{shortest}
 use Rattle.listing.specs.declared.Counted.{Counted}
 use Rattle.listing.specs.Writing.{ifRoom, counted, countedOf}
-use Rattle.prefixes.specs.Call.{IpRange, entriesOf, ipRange, ipRangeOf, prefixesIn, entriesIn, prefixedOf, bufferAfter}
+use Rattle.prefix_bytes.specs.Entry.{entriesOf}
+use Rattle.prefixes.specs.Call.{IpRange, ipRange, ipRangeOf, prefixesIn, entriesIn, prefixedOf, bufferAfter}
 use Rattle.prefixes.specs.Answers.{AnswersShortest}
 use Rattle.next_prefix.specs.Walked.{between, walked}
 use Rattle.prefixes.specs.Entries.{Ordered}
-use Rattle.prefixes.proofs.Writing.{by-width}
+use Rattle.prefix_bytes.proofs.Widths.{by-width}
 use Rattle.prefixes.proofs.Room.{at-width}
 
 -- a range of two addresses of so many bytes

@@ -15,8 +15,10 @@ use Rattle.cidr.proofs.Multiples.{Multiple, sum, itself, finer, near, of-remain
 use Rattle.cidr.proofs.Greedy.{first-prefix, no-more}
 use Rattle.cidr.proofs.Step.{by-room}
 use Rattle.cidr.proofs.Theorem.{at-most-254}
-use Rattle.prefixes.specs.Entries.{fallen, Falling, EntryFits}
-use Rattle.prefixes.proofs.Writing.{at-most-sixteen, entry-fits}
+use Rattle.prefix_bytes.specs.Words.{EntryFits}
+use Rattle.prefixes.specs.Entries.{fallen, Falling}
+use Rattle.prefix_bytes.proofs.Widths.{at-most-sixteen}
+use Rattle.prefixes.proofs.Writing.{entry-fits}
 
 -- by powers
 less : (i j : ℕ) → 2 ^ i < 2 ^ j → i < j

@@ -13,11 +13,11 @@ use Rattle.address.specs.declared.Words.{Words}
 use Rattle.cidr.specs.Prefixes.{Prefix, prefixesOf}
 use Rattle.cidr.proofs.Greedy.{wider}
 use Rattle.cidr.proofs.Theorem.{shortest}
-use Rattle.prefixes.specs.Call.{entriesOf}
+use Rattle.prefix_bytes.specs.Entry.{entriesOf}
 use Rattle.next_prefix.specs.Walked.{between, walked}
 use Rattle.prefixes.specs.Entries.{Ordered, fitOf}
 use Rattle.prefixes.specs.declared.Fit.the-variants.{Enough, Short}
-use Rattle.prefixes.proofs.Writing.{by-width, at-most-sixteen, length-entries}
+use Rattle.prefix_bytes.proofs.Widths.{by-width, at-most-sixteen, length-entries}
 
 pub room-fits : {width : ℕ} → Wide width → (16 * width - 2) * (width + 1) < 18446744073709551616
 room-fits w = by-width w (λ (k : ℕ). (16 * k - 2) * (k + 1) < 18446744073709551616) (omega arith) (omega arith)

@@ -1,12 +1,13 @@
 -- The call that lists the prefixes of a range (S2.6): a range as bytes goes in, entries in a lent buffer come out.
-use Prim.Native.Nat.{ℕ, zero, suc, _-_, _*_, _/_, _%_}
+use Prim.Native.Nat.{ℕ, _*_}
 use mathlib.Core.Bool.{cond}
 use mathlib.Core.Option.{Option, none, some}
-use mathlib.Core.List.{List, [], _∷_, _++_}
+use mathlib.Core.List.{List}
 use lib.Dec.{eqb}
 use lib.ListN.{length}
 use Rattle.address.specs.Ranges.{Range, rangeFrom, wellFormed}
 use Rattle.cidr.specs.Prefixes.{Prefix, prefixesOf}
+use Rattle.prefix_bytes.specs.Entry.{entriesOf}
 use Rattle.listing.specs.declared.Counted.{Counted}
 use Rattle.listing.specs.Writing.{ifRoom, counted, countedOf}
 
@@ -25,19 +26,6 @@ ipRangeOf s = cond (eqb (length s) 8) (ipRange 4 s) (cond (eqb (length s) 32) (i
 
 unfoldable pub prefixesIn : IpRange → List Prefix
 prefixesIn a = prefixesOf (8 * a .width) (a .range)
-
--- the n low bytes of a number, high byte first
-unfoldable pub bigEndian : ℕ → ℕ → List ℕ
-bigEndian zero v = []
-bigEndian (suc n) v = bigEndian n (v / 256) ++ (v % 256 ∷ [])
-
--- An entry is the address in 4 or 16 bytes, then its length in one.
-unfoldable pub entryOf : ℕ → Prefix → List ℕ
-entryOf width p = bigEndian width (p .first) ++ ((8 * width - p .free) ∷ [])
-
-unfoldable pub entriesOf : ℕ → List Prefix → List ℕ
-entriesOf width [] = []
-entriesOf width (p ∷ ps) = entryOf width p ++ entriesOf width ps
 
 unfoldable pub entriesIn : IpRange → List ℕ
 entriesIn a = entriesOf (a .width) (prefixesIn a)

@@ -1,8 +1,7 @@
 -- Opens the definitions of this crate and of those below it, for theorems that hold by computing: `unfolding computing`.
-use Rattle.cidr.specs.Computing as Cidr
-use Rattle.prefixes.specs.Call.{ipRange, ipRangeOf, prefixesIn, bigEndian, entryOf, entriesOf, entriesIn, prefixedOf, bufferAfter}
-use Rattle.prefixes.specs.Entries.{wordBytes}
+use Rattle.prefix_bytes.specs.Computing as PrefixBytes
+use Rattle.prefixes.specs.Call.{ipRange, ipRangeOf, prefixesIn, entriesIn, prefixedOf, bufferAfter}
 
 unfoldable pub computing : Unit {0}
-unfolding Cidr.computing ipRange ipRangeOf prefixesIn bigEndian entryOf entriesOf entriesIn prefixedOf bufferAfter wordBytes
+unfolding PrefixBytes.computing ipRange ipRangeOf prefixesIn entriesIn prefixedOf bufferAfter
 computing = tt

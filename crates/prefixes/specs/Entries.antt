@@ -2,18 +2,17 @@
 use Prim.Native.Nat.{ℕ, _+_, _-_, _*_, _^_, _%_, _≤_, _<_}
 use mathlib.Core.Bool.{cond}
 use mathlib.Core.Path.{_≡_}
-use mathlib.Core.List.{List, [], _∷_, _++_}
+use mathlib.Core.List.{List}
 use lib.Dec.{ltb}
 use lib.ListN.{length}
 use Rattle.address.specs.Positions.{Wide}
-use Rattle.address.specs.Ranges.{Range}
 use Rattle.address.specs.Words.{numberOf}
 use Rattle.address.specs.declared.Words.{Words}
 use Rattle.listing.specs.Writing.{over, Reached}
 use Rattle.cidr.specs.First.{Capped}
 use Rattle.next_prefix.specs.Walked.{between, walked}
 use Rattle.cidr.specs.Prefixes.{Prefix, from-to, prefixesOf}
-use Rattle.prefixes.specs.Call.{bigEndian, entriesOf}
+use Rattle.prefix_bytes.specs.Entry.{entriesOf}
 use Rattle.prefixes.specs.declared.Stop.{Stop}
 use Rattle.prefixes.specs.declared.Fit.{Fit}
 use Rattle.prefixes.specs.declared.Fit.the-variants.{Enough, Short}
@@ -23,20 +22,6 @@ pub record Ordered (width : ℕ) (first last : Words) : Type 0 where
   pub wide : Wide width
   pub forward : numberOf first ≤ numberOf last
   pub below : numberOf last < 2 ^ (8 * width)
-
-abbrev pub wordsOf : Words → List ℕ
-wordsOf a = a .high ∷ a .low ∷ []
-
--- words, one after another, in eight bytes each
-unfoldable pub wordBytes : List ℕ → List ℕ
-wordBytes [] = []
-wordBytes (w ∷ words) = bigEndian 8 w ++ wordBytes words
-
--- a prefix whose address has so many bytes
-pub record EntryFits (width first free : ℕ) : Type 0 where
-  pub wide : Wide width
-  pub address : first < 2 ^ (8 * width)
-  pub short : free ≤ 8 * width
 
 -- all entries are written, and so many they are
 pub record Listed (width : ℕ) (ps : List Prefix) (before after : List ℕ) (n : ℕ) : Type 0 where

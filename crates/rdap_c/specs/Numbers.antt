@@ -15,7 +15,7 @@ unfoldable pub partNumbers : Span → List ℕ
 partNumbers span = span .start ∷ (span .end - span .start) ∷ []
 
 -- reason, count
-abbrev pub countedNumbers : Counted → List ℕ
+unfoldable pub countedNumbers : Counted → List ℕ
 countedNumbers a = a .reason ∷ a .count ∷ []
 
 -- reason, count, defect, place, offset

@@ -5,7 +5,7 @@ ghost use lib.ListN.{length};
 ghost use Rattle.image.specs.Entries.{spanOf};
 ghost use Rattle.answers.specs.Reply.{listAfter};
 ghost use Rattle.calls.specs.Calls.{answerOf, relationOf};
-ghost use Rattle.batch.specs.Batch.{batchOf};
+ghost use Rattle.batches.specs.Batch.{batchOf};
 ghost use Rattle.answers.specs.Answered.{replyOf};
 ghost use Rattle.prefixes.specs.Call.{ipRangeOf, prefixedOf, bufferAfter};
 ghost use Rattle.changes.specs.Fold.{foldOf};

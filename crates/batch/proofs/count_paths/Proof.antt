@@ -7,7 +7,7 @@ use lib.ListN.{length}
 use denote.Ref.{now}
 use Rattle.path.specs.Places.{piecesFrom}
 use Rattle.path.proofs.Among.{from-start, from-end}
-use Rattle.batch.specs.Batch.{pathsOf}
+use Rattle.batches.specs.Batch.{pathsOf}
 use Rattle.batch.proofs.count_paths.Statement.{statement}
 use Rattle.batch.proofs.count_paths.Tie as tie
 

@@ -1,6 +1,6 @@
 -- By the bound on the number of prefixes, or by counting them.
 use native.Mathlib.Omega.{arith}
-use Rattle.prefixes.proofs.Writing.{at-most-sixteen}
+use Rattle.prefix_bytes.proofs.Widths.{at-most-sixteen}
 use Rattle.prefixes.proofs.Room.{room-fits, product-fits, ample, enough, too-short}
 use borrow.Author.Needs.{needs}
 use Rattle.prefixes.proofs.check_room.Statement.{statement}

@@ -17,7 +17,8 @@ use Rattle.next_prefix.specs.Walked.{between, walked}
 use Rattle.prefixes.specs.Entries.{fallen, Falling, Entered}
 use Rattle.next_prefix.proofs.Walk as walk
 use Rattle.prefixes.proofs.Falling.{same-last, positive-after, below-after, few-after}
-use Rattle.prefixes.proofs.Writing.{at-most-sixteen, nothing-entered, entry-inside, one-entered, all-entered, both-listed, entry-fits}
+use Rattle.prefix_bytes.proofs.Widths.{at-most-sixteen}
+use Rattle.prefixes.proofs.Writing.{nothing-entered, entry-inside, one-entered, all-entered, both-listed, entry-fits}
 use Rattle.prefixes.proofs.Room.{few}
 use borrow.Author.Needs.{needs}
 use Rattle.prefixes.proofs.descend.Statement.{statement}

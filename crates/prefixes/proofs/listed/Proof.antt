@@ -9,7 +9,7 @@ use Rattle.address.specs.Words.{numberOf}
 use Rattle.address.specs.declared.Words.{Words}
 use Rattle.listing.proofs.Writing.{all-put, nothing-put}
 use Rattle.next_prefix.specs.Walked.{walked}
-use Rattle.prefixes.specs.Call.{entriesOf}
+use Rattle.prefix_bytes.specs.Entry.{entriesOf}
 use Rattle.prefixes.specs.Entries.{Ordered}
 use Rattle.prefixes.proofs.Room.{told-short, told-enough}
 use Rattle.prefixes.proofs.Answers.{ordered, refused, told}

@@ -3,9 +3,10 @@ use Prim.Native.Nat.{_+_, _≤_}
 use native.Mathlib.Omega.{arith}
 use lib.ListN.{length}
 use Rattle.listing.proofs.Writing.{rest-length, rest-fits}
-use Rattle.prefixes.specs.Call.{entriesOf}
+use Rattle.prefix_bytes.specs.Entry.{entriesOf}
 use Rattle.next_prefix.specs.Walked.{walked}
-use Rattle.prefixes.proofs.Writing.{at-most-sixteen, both-listed}
+use Rattle.prefix_bytes.proofs.Widths.{at-most-sixteen}
+use Rattle.prefixes.proofs.Writing.{both-listed}
 use Rattle.prefixes.proofs.Room.{few}
 use borrow.Author.Needs.{needs}
 use Rattle.prefixes.proofs.write.Statement.{statement}

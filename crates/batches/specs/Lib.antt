@@ -1,0 +1,4 @@
+pub mod Batch
+pub mod Batches
+pub mod Cases
+pub mod Computing
