@@ -1,6 +1,7 @@
 -- The sorting first, then the open blocks.
-use mathlib.Core.Path.{sym, _∙_}
+use mathlib.Core.Path.{sym, _∙_, ap₂}
 use borrow.Author.Tests.{not-true, not-false}
+use Rattle.image.specs.Nest.{stepIn}
 use borrow.Author.Needs.{needs}
 use Rattle.image.proofs.block_after.Statement.{statement}
 use Rattle.image.proofs.block_after.Tie as tie
@@ -22,17 +23,13 @@ enum-told c = search needs
 
 returns-2 : tie.Need-returns-2
 returns-2 c =
-    rw (
-      sym (c .before .before .before .before .before .range-after .ensures) ∙ not-false _ (c .before .before .before .before .if1 .left),
-      sym (c .before .before .before .nest .ensures) ∙ c .before .d .given .1,
-    )
+    ap₂ stepIn (sym (not-false _ (c .before .before .before .before .if1 .left)) ∙ c .before .before .before .before .before .range-after .ensures)
+    (sym (c .before .d .given .1) ∙ c .before .before .before .nest .ensures)
 
 returns-3 : tie.Need-returns-3
 returns-3 c =
-    rw (
-      sym (c .before .before .before .before .range-after .ensures) ∙ not-false _ (c .before .before .before .if1 .left),
-      sym (c .before .before .nest .ensures) ∙ c .enum-told .given .1,
-    )
+    ap₂ stepIn (sym (not-false _ (c .before .before .before .if1 .left)) ∙ c .before .before .before .before .range-after .ensures)
+    (sym (c .enum-told .given .1) ∙ c .before .before .nest .ensures)
 
 pub block-after-spec : {M : Type 1} → statement M
 block-after-spec = tie.close (tie.spec range-after-requires returns nest-requires enum-known-d enum-told returns-2 returns-3)
