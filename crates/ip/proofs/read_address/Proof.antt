@@ -30,17 +30,17 @@ read-ipv6-requires c κs = search needs
 
 returns-2 : tie.Need-returns-2
 returns-2 c =
-    let s = now (c .before .before .before .before .before .before .before .args .s) in
+    let four = c .before .before .before .before .before in
     let six = c .before .before .read-ipv6 in
     let l : length (six .result .bytes) ≡ 16 = search needs in
     let is = six .ensures ∙ ap ipv6 (c .before .before .before .without-zone .ensures) in
-    answer-six s _ _ (c .before .before .before .before .before .read-ipv4 .ensures) (c .before .before .before .before .if1 .left) _ _ is (c .before .if2 .taken) l
+    answer-six (now (four .before .before .args .s)) _ _ (four .read-ipv4 .ensures) (c .before .before .before .before .if1 .left) _ _ is (c .before .if2 .taken) l
 
 returns-3 : tie.Need-returns-3
 returns-3 c =
-    let s = now (c .before .before .before .before .before .before .args .s) in
+    let four = c .before .before .before .before in
     let is = c .before .read-ipv6 .ensures ∙ ap ipv6 (c .before .before .without-zone .ensures) in
-    answer-none s _ _ (c .before .before .before .before .read-ipv4 .ensures) (c .before .before .before .if1 .left) _ _ is (c .if2 .left)
+    answer-none (now (four .before .before .args .s)) _ _ (four .read-ipv4 .ensures) (c .before .before .before .if1 .left) _ _ is (c .if2 .left)
 
 pub read-address-spec : {M : Type 1} → statement M
 read-address-spec =

@@ -40,23 +40,23 @@ join-sides-requires c κs = (c .before .before .before .before .read-side .ensur
 
 returns : tie.Need-returns
 returns c =
-    let s = now (c .before .before .before .before .before .before .before .before .args .s) in
-    let at = c .before .before .before .before .before .before .before .before .args .at in
-    rw (read-some (c .before .before .before .before .before .read-side .ensures) (c .before .before .if1 .taken), ← (rest-is s (at + 2)), read-some (c .before .before .before .read-side2 .ensures) (c .before .if2 .taken)) (c .join-sides .ensures)
+    let left = c .before .before .before .before .before in
+    let a = left .before .before .before .args in
+    rw (read-some (left .read-side .ensures) (c .before .before .if1 .taken), ← (rest-is (now (a .s)) (a .at + 2)), read-some (c .before .before .before .read-side2 .ensures) (c .before .if2 .taken)) (c .join-sides .ensures)
 
 returns-2 : tie.Need-returns-2
 unfolding found
 returns-2 c =
-    let s = now (c .before .before .before .before .before .before .before .args .s) in
-    let at = c .before .before .before .before .before .before .before .args .at in
-    rw (← (rest-is s (at + 2))) (sym (elided-right (side false (take at s)) _ (read-none (c .before .before .read-side2 .ensures) (c .if2 .left))))
+    let left = c .before .before .before .before in
+    let a = left .before .before .before .args in
+    rw (← (rest-is (now (a .s)) (a .at + 2))) (sym (elided-right (side false (take (a .at) (now (a .s)))) _ (read-none (c .before .before .read-side2 .ensures) (c .if2 .left))))
 
 returns-3 : tie.Need-returns-3
 unfolding found
 returns-3 c =
-    let s = now (c .before .before .before .before .before .before .args .s) in
-    let at = c .before .before .before .before .before .before .args .at in
-    sym (elided-left (side false (take at s)) (side true (drop (at + 2) s)) (read-none (c .before .before .before .read-side .ensures) (c .if1 .left)))
+    let left = c .before .before .before in
+    let a = left .before .before .before .args in
+    sym (elided-left (side false (take (a .at) (now (a .s)))) (side true (drop (a .at + 2) (now (a .s)))) (read-none (left .read-side .ensures) (c .if1 .left)))
 
 pub read-elided-spec : {M : Type 1} → statement M
 read-elided-spec =

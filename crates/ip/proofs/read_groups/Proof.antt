@@ -47,8 +47,9 @@ no-groups-requires c κs = search needs
 
 returns : tie.Need-returns Inv-loop μ-loop
 returns c =
-    let a = c .before .before .before .before .before .before .before .before .before .args in
-    let l = c .before .before .before .before .before .before .loop in
+    let inside = c .before .before .before .before .before in
+    let a = inside .before .before .before .before .args in
+    let l = inside .before .loop in
     let s = now (a .s) in
     let t = now (l .t) in
     refused (c .no-groups .ensures)
@@ -59,12 +60,14 @@ no-groups-requires-2 c κs = search needs
 
 returns-2 : tie.Need-returns-2 Inv-loop μ-loop
 returns-2 c =
-    let a = c .before .before .before .before .before .before .before .before .before .before .before .args in
-    let l = c .before .before .before .before .before .before .before .before .loop in
+    let read = c .before .before .before .before .before in
+    let inside = read .before .before in
+    let a = inside .before .before .before .before .args in
+    let l = inside .before .loop in
     let s = now (a .s) in
     let t = now (l .t) in
     let v = c .before .before .before .g .given .0 .0 in
-    let e = sym (c .before .before .before .before .before .read-h16 .ensures) ∙ c .before .before .before .g .given .1 in
+    let e = sym (read .read-h16 .ensures) ∙ c .before .before .before .g .given .1 in
     refused (c .no-groups2 .ensures)
     (groups-over (a .tail) s t (l .bytes) (l .n) (l .j) (l .inv .4) (l .inv .3) (omega arith) v e (l .inv .1) (omega arith) (omega arith))
 
@@ -91,20 +94,23 @@ first-piece-requires-2 c κs = search needs
 
 loop-less : tie.Need-loop-less Inv-loop μ-loop
 loop-less c =
-    let a = c .before .before .before .before .before .before .before .before .before .before .before .before .before .args in
-    let l = c .before .before .before .before .before .before .before .before .before .before .loop in
-    let s = now (a .s) in
+    let group = c .before .before .before .before .before in
+    let inside = group .before .before .before .before in
+    let l = inside .before .loop in
     let t = now (l .t) in
     rw (rest-is t (l .j + 1)) (omega (arith, length-drop (l .j + 1) t))
 
 loop-again : tie.Need-loop-again Inv-loop μ-loop
 loop-again c =
-    let a = c .before .before .before .before .before .before .before .before .before .before .before .before .before .args in
-    let l = c .before .before .before .before .before .before .before .before .before .before .loop in
+    let group = c .before .before .before .before .before in
+    let read = group .before .before in
+    let inside = read .before .before in
+    let a = inside .before .before .before .before .args in
+    let l = inside .before .loop in
     let s = now (a .s) in
     let t = now (l .t) in
-    let v = c .before .before .before .before .before .g .given .0 .0 in
-    let e = sym (c .before .before .before .before .before .before .before .read-h16 .ensures) ∙ c .before .before .before .before .before .g .given .1 in (
+    let v = group .g .given .0 .0 in
+    let e = sym (read .read-h16 .ensures) ∙ group .g .given .1 in (
       omega arith,
       search needs,
       rw (rest-is t (l .j + 1)) (omega (arith, length-drop (l .j + 1) t)),

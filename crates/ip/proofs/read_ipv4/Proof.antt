@@ -44,9 +44,10 @@ enum-told c = search needs
 returns : tie.Need-returns Inv-loop μ-loop
 unfolding found
 returns c =
-    let l = c .before .before .before .before .before .before .loop in
-    let p = c .before .before .before .before .first-piece in
-    ipv4-bad (now (c .before .before .before .before .before .before .before .before .args .s)) (now (l .t)) (l .bytes) (l .n) (l .inv .2) (l .inv .1) (p .result) (p .ensures)
+    let piece = c .before .before .before .before in
+    let l = piece .before .before .loop in
+    let p = piece .first-piece in
+    ipv4-bad (now (piece .before .before .before .before .args .s)) (now (l .t)) (l .bytes) (l .n) (l .inv .2) (l .inv .1) (p .result) (p .ensures)
     (sym (c .before .before .read-decimal .ensures) ∙ c .enum-told .given .1)
 
 cast-bytes : tie.Need-cast-bytes Inv-loop μ-loop
@@ -60,10 +61,12 @@ add-n c = search needs
 
 returns-2 : tie.Need-returns-2 Inv-loop μ-loop
 returns-2 c =
-    let s = now (c .before .before .before .before .before .before .before .before .before .before .args .s) in
-    let l = c .before .before .before .before .before .before .before .before .loop in
-    let p = c .before .before .before .before .before .before .first-piece in
-    let o = c .before .before .octet .given in
+    let octet = c .before .before in
+    let piece = octet .before .before .before .before in
+    let s = now (piece .before .before .before .before .args .s) in
+    let l = piece .before .before .loop in
+    let p = piece .first-piece in
+    let o = octet .octet .given in
     ipv4-done s (now (l .t)) (l .bytes) (l .n) (l .inv .2) (l .inv .1) (p .result) (p .ensures) (o .0 .0)
     (sym (c .before .before .before .before .read-decimal .ensures) ∙ o .1) (omega arith) (omega arith)
 
@@ -84,10 +87,12 @@ loop-less c = search needs
 
 loop-again : tie.Need-loop-again Inv-loop μ-loop
 loop-again c =
-    let s = now (c .before .before .before .before .before .before .before .before .before .before .before .args .s) in
-    let l = c .before .before .before .before .before .before .before .before .before .loop in
-    let p = c .before .before .before .before .before .before .before .first-piece in
-    let o = c .before .before .before .octet .given in (
+    let octet = c .before .before .before in
+    let piece = octet .before .before .before .before in
+    let s = now (piece .before .before .before .before .args .s) in
+    let l = piece .before .before .loop in
+    let p = piece .first-piece in
+    let o = octet .octet .given in (
       omega arith,
       simp length-set (l .inv .1),
       rw (rest-is (now (l .t)) (p .result + 1))

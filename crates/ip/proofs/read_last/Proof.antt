@@ -22,24 +22,26 @@ no-groups-requires c κs = search needs
 
 returns : tie.Need-returns
 returns c =
-    let a = c .before .before .before .before .before .before .before .args in
+    let read = c .before .before .before .before .before in
+    let a = read .before .before .args in
     let l : length (a .bytes) ≡ 16 = search needs in
     let v = c .before .before .before .g .given .0 .0 in
-    let e = sym (c .before .before .before .before .before .read-h16 .ensures) ∙ c .before .before .before .g .given .1 in
+    let e = sym (read .read-h16 .ensures) ∙ c .before .before .before .g .given .1 in
     refused (c .no-groups .ensures) (over (a .n) (a .bytes) l (lastGroup (a .tail) (now (a .t))) _ (last-group (now (a .t)) (a .tail) v e) (omega arith) (omega arith))
 
 put-group-requires : tie.Need-put-group-requires
-put-group-requires c κs = (omega arith, h16-le (now (c .before .before .before .before .before .before .args .t)) _ (sym (c .before .before .before .before .read-h16 .ensures) ∙ c .before .before .g .given .1))
+put-group-requires c κs = (omega arith, h16-le _ _ (sym (c .before .before .before .before .read-h16 .ensures) ∙ c .before .before .g .given .1))
 
 add-t9 : tie.Need-add-t9
 add-t9 c = search needs
 
 returns-2 : tie.Need-returns-2
 returns-2 c =
-    let a = c .before .before .before .before .before .before .before .args in
+    let read = c .before .before .before .before .before in
+    let a = read .before .before .args in
     let l : length (a .bytes) ≡ 16 = search needs in
     let v = c .before .before .before .g .given .0 .0 in
-    let e = sym (c .before .before .before .before .before .read-h16 .ensures) ∙ c .before .before .before .g .given .1 in
+    let e = sym (read .read-h16 .ensures) ∙ c .before .before .before .g .given .1 in
     answered (omega arith)
     (put (a .n) (a .bytes) l (lastGroup (a .tail) (now (a .t))) _ (c .put-group .result) (a .n + 2) (last-group (now (a .t)) (a .tail) v e) (c .put-group .ensures))
 
@@ -51,9 +53,10 @@ read-tail-requires c κs = search needs
 
 returns-3 : tie.Need-returns-3
 returns-3 c =
-    let a = c .before .before .before .before .before .before .args in
+    let read = c .before .before .before .before in
+    let a = read .before .before .args in
     let l : length (a .bytes) ≡ 16 = search needs in
-    let e = sym (c .before .before .before .before .read-h16 .ensures) ∙ c .before .before .enum-told .given .1 in
+    let e = sym (read .read-h16 .ensures) ∙ c .before .before .enum-told .given .1 in
     rw (last-ipv4 (now (a .t)) (a .tail) e (c .before .if2 .taken)) (c .read-tail .ensures)
 
 no-groups-requires-2 : tie.Need-no-groups-requires-2
@@ -61,9 +64,10 @@ no-groups-requires-2 c κs = search needs
 
 returns-4 : tie.Need-returns-4
 returns-4 c =
-    let a = c .before .before .before .before .before .before .args in
+    let read = c .before .before .before .before in
+    let a = read .before .before .args in
     let l : length (a .bytes) ≡ 16 = search needs in
-    let e = sym (c .before .before .before .before .read-h16 .ensures) ∙ c .before .before .enum-told .given .1 in
+    let e = sym (read .read-h16 .ensures) ∙ c .before .before .enum-told .given .1 in
     refused (c .no-groups2 .ensures) (missing (a .n) (a .bytes) l (lastGroup (a .tail) (now (a .t))) (last-none (now (a .t)) (a .tail) e (c .before .if2 .left)))
 
 pub read-last-spec : {M : Type 1} → statement M

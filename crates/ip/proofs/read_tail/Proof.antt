@@ -34,10 +34,11 @@ add-t9 c = search needs
 returns-2 : tie.Need-returns-2
 unfolding found
 returns-2 c =
-    let a = c .before .before .before .before .before .before .args in
+    let read = c .before .before .before .before in
+    let a = read .before .before .args in
     let l : length (a .bytes) ≡ 16 = search needs in
     answered (omega arith)
-    (put (a .n) (a .bytes) l (ipv4 (now (a .t))) (c .before .before .before .before .read-ipv4 .result .bytes) (c .put-ipv4 .result) (a .n + 4) (sym (c .before .before .before .before .read-ipv4 .ensures) ∙ rw (c .before .before .before .if1 .taken)) (c .put-ipv4 .ensures))
+    (put (a .n) (a .bytes) l (ipv4 (now (a .t))) (read .read-ipv4 .result .bytes) (c .put-ipv4 .result) (a .n + 4) (sym (read .read-ipv4 .ensures) ∙ rw (c .before .before .before .if1 .taken)) (c .put-ipv4 .ensures))
 
 no-groups-requires-2 : tie.Need-no-groups-requires-2
 no-groups-requires-2 c κs = search needs
