@@ -4,15 +4,14 @@ use mathlib.Core.Bool.{Bool, true, false}
 use mathlib.Core.List.{List}
 use Rattle.address.specs.Ranges.{Range}
 use Rattle.blocks.specs.Blocks.{Block}
-use Rattle.blocks.specs.Relations.{lookup, up, down, top, bottom}
+use Rattle.blocks.specs.Relations.{down, bottom}
+use Rattle.scans.specs.Around.{aroundIn}
 use Rattle.relations.specs.declared.Finding.{Finding}
-use Rattle.relations.specs.declared.Finding.the-variants.{Lookup, Up, Down, Top, Bottom}
+use Rattle.relations.specs.declared.Finding.the-variants.{Around, Down, Bottom}
 
 unfoldable pub foundIn : Finding → List Block → Range → List ℕ
-foundIn Lookup bs q = lookup bs q
-foundIn Up bs q = up bs q
+foundIn (Around which) bs q = aroundIn which bs q
 foundIn Down bs q = down bs q
-foundIn Top bs q = top bs q
 foundIn Bottom bs q = bottom bs q
 
 -- bottom, or down: those that may find many

@@ -14,15 +14,13 @@ use image::Run;
 use listing::Listed;
 use listing::report;
 use listing::report_found;
-use scans::first_around;
-use scans::last_around;
+use scans::Around;
+use scans::find_around;
 
 // What is asked of the blocks of a family and a range.
 pub enum Finding {
-    Lookup,
-    Up,
+    Around(Around),
     Down,
-    Top,
     Bottom,
 }
 
@@ -75,9 +73,9 @@ fn list_found(
     ensures { λ r. ⌜ Reported (foundIn what (blocksIn (now (image .entry)) (blocks .first)) (numbers range)) (now (list .entry)) (now (list .exit)) r ⌝ }
 {
     match what {
-        Finding::Lookup => report_found(last_around(image, places, blocks, range, false), list),
-        Finding::Up => report_found(last_around(image, places, blocks, range, true), list),
-        Finding::Top => report_found(first_around(image, places, blocks, range), list),
+        Finding::Around(which) => {
+            report_found(find_around(image, places, blocks, range, which), list)
+        }
         Finding::Down => list_inside(image, places, blocks, range, false, list),
         Finding::Bottom => list_inside(image, places, blocks, range, true, list),
     }

@@ -16,23 +16,54 @@ use Rattle.address.specs.declared.Range.{Range}
 use Rattle.image.specs.declared.Run.{Run}
 use Rattle.blocks.specs.Blocks.{Block}
 use Rattle.blocks.specs.Defects.{accepted}
-use Rattle.blocks.specs.Scans.{lastPassing, firstPassing, downPass}
+use Rattle.blocks.specs.Scans.{lastPassing, downPass}
 use Rattle.blocks.proofs.Laminar.{Laminar}
-use Rattle.blocks.proofs.Scans.{lookup-scan, up-scan}
+use Rattle.blocks.proofs.Scans.{lookup-scan, up-scan, top-scan}
 use Rattle.blocks.proofs.Select.{None, first-none, last-none}
-use Rattle.scans.specs.Tests.{surroundsBy, freeAfter, keepsFrom, lastAround}
+use Rattle.scans.specs.Around.{aroundIn, strictBy, firstBy, passing}
+use Rattle.scans.specs.declared.Around.{Around}
+use Rattle.scans.specs.declared.Around.the-variants.{Lookup, Up, Top}
+use Rattle.scans.specs.Standing.{blocksIn, Asked}
+use Rattle.scans.specs.Tests.{surroundsBy, freeAfter, keepsFrom}
 use Rattle.listing.specs.Listing.{foundNumbers}
 use Rattle.listing.specs.declared.Found.{Found}
-use Rattle.listing.specs.declared.Found.the-variants.{At}
-use Rattle.scans.proofs.Walks.{blocksLeft, Here, next-left, run-laminar}
+use Rattle.listing.specs.declared.Found.the-variants.{At, Nothing}
+use Rattle.scans.proofs.Walks.{blocksLeft, asked-accepted, asked-proper, Here, next-left, run-laminar}
 use Rattle.scans.proofs.Ends.{none-around, none-inside, down-none, any-none}
 use Rattle.listing.proofs.Emit.{one-more}
 
--- lookup and up by one pass
-pub around-scan : (strict : Bool) (bs : List Block) → T (accepted bs) → (q : Ranges.Range) → T (wellFormed q)
-    → lastAround strict bs q ≡ lastPassing (λ b. surroundsBy strict (b .range) q) bs []
-around-scan true bs t q w = up-scan bs t q w
-around-scan false bs t q w = lookup-scan bs t q w
+-- lookup, up and top by one pass
+around-scan : (which : Around) (bs : List Block) → T (accepted bs) → (q : Ranges.Range) → T (wellFormed q)
+    → passing (firstBy which) (λ b. surroundsBy (strictBy which) (b .range) q) bs [] ≡ aroundIn which bs q
+around-scan Lookup bs t q w = sym (lookup-scan bs t q w)
+around-scan Up bs t q w = sym (up-scan bs t q w)
+around-scan Top bs t q w = sym (top-scan bs t q w)
+
+-- what the pass over a run finds
+abbrev pub passed : Bool → Bool → List ℕ → Run → Range → List ℕ
+passed first strict s blocks range = passing first (λ b. surroundsBy strict (b .range) (numbers range)) (blocksIn s (blocks .first)) []
+
+pub run-scan : {s places : List ℕ} {blocks : Run} {range : Range} → Asked s places blocks range → (which : Around) {strict first : Bool}
+    → strict ≡ strictBy which → first ≡ firstBy which → passed first strict s blocks range ≡ aroundIn which (blocksIn s (blocks .first)) (numbers range)
+run-scan a which e f = rw (e, f) (around-scan which _ (asked-accepted a) _ (asked-proper a))
+
+-- before the blocks bs: what the pass finds from here on is R. Before the first block there is nothing.
+pub record Passing (first : Bool) (p : Block → Bool) (bs : List Block) (best : Found) (R : List ℕ) : Type 0 where
+  pub none-yet : first ≡ true → foundNumbers best ≡ []
+  pub rest : passing first p bs (foundNumbers best) ≡ R
+
+pub at-first : (first : Bool) (p : Block → Bool) (bs : List Block) → Passing first p bs Nothing (passing first p bs [])
+at-first first p bs = record { none-yet = λ f. refl; rest = refl }
+
+-- no block is left that passes
+pub none-more : (first : Bool) (p : Block → Bool) (bs : List Block) {best : Found} {R : List ℕ} → None p bs → Passing first p bs best R → foundNumbers best ≡ R
+none-more true p bs n r = r .none-yet refl ∙ sym (first-none p bs n) ∙ r .rest
+none-more false p bs {best} n r = sym (last-none p bs (foundNumbers best) n) ∙ r .rest
+
+-- no block is left
+pub at-end : (first : Bool) {p : Block → Bool} {best : Found} {R : List ℕ} → Passing first p [] best R → foundNumbers best ≡ R
+at-end true r = r .none-yet refl ∙ r .rest
+at-end false r = r .rest
 
 module _ {s places : List ℕ} {blocks : Run} {range : Range} {i at w : ℕ} (h : Here s places blocks range i at w) where
   laminar : Laminar (record { number = i; range = rangeIn s at w } ∷ blocksLeft s (blocks .first) (i + 1))
@@ -40,16 +71,8 @@ module _ {s places : List ℕ} {blocks : Run} {range : Range} {i at w : ℕ} (h 
 
   -- from a block that begins after the range's first on, none is around the range
   module _ {v : Bool} (t : v ≡ leb (numberIn s at w) (number (range .first))) where
-    after : v ≡ false → (strict : Bool) → None (λ b. surroundsBy strict (b .range) (numbers range)) (blocksLeft s (blocks .first) i)
+    pub after : v ≡ false → (strict : Bool) → None (λ b. surroundsBy strict (b .range) (numbers range)) (blocksLeft s (blocks .first) i)
     after f strict = rw (next-left h) (none-around (numbers range) laminar strict (leb-false _ _ (sym t ∙ f)))
-
-    pub last-stop : v ≡ false → (strict : Bool) (best : List ℕ)
-        → lastPassing (λ b. surroundsBy strict (b .range) (numbers range)) (blocksLeft s (blocks .first) i) best ≡ best
-    last-stop f strict best = last-none (λ b. surroundsBy strict (b .range) (numbers range)) (blocksLeft s (blocks .first) i) best (after f strict)
-
-    pub first-stop : v ≡ false → (strict : Bool)
-        → firstPassing (λ b. surroundsBy strict (b .range) (numbers range)) (blocksLeft s (blocks .first) i) ≡ []
-    first-stop f strict = first-none (λ b. surroundsBy strict (b .range) (numbers range)) (blocksLeft s (blocks .first) i) (after f strict)
 
     pub not-after : v ≡ true → numberIn s at w ≤ number (range .first)
     not-after f = leb-true _ _ (sym t ∙ f)
@@ -74,33 +97,32 @@ module _ {s places : List ℕ} {blocks : Run} {range : Range} {i at w : ℕ} (h 
     any-missed f = rw (next-left h, sym t ∙ f) at inv
 
   module _ (strict : Bool) {v : Bool} (t : v ≡ surroundsBy strict (rangeIn s at w) (numbers range)) where
-    test : Block → Bool
+    abbrev test : Block → Bool
     test b = surroundsBy strict (b .range) (numbers range)
 
     last-turn : (best : List ℕ)
-        → lastPassing (λ b. surroundsBy strict (b .range) (numbers range)) (blocksLeft s (blocks .first) i) best
-        ≡ lastPassing (λ b. surroundsBy strict (b .range) (numbers range)) (blocksLeft s (blocks .first) (i + 1)) (cond v (i ∷ []) best)
-    unfolding test
+        → lastPassing test (blocksLeft s (blocks .first) i) best ≡ lastPassing test (blocksLeft s (blocks .first) (i + 1)) (cond v (i ∷ []) best)
     last-turn best =
         ap (λ (bs : List Block). lastPassing test bs best) (next-left h)
         ∙ ap (λ (u : Bool). lastPassing test (blocksLeft s (blocks .first) (i + 1)) (cond u (i ∷ []) best)) (sym t)
 
-    module _ (best : Found) {best′ : Found} {R : List ℕ}
-        (inv : lastPassing (λ b. surroundsBy strict (b .range) (numbers range)) (blocksLeft s (blocks .first) i) (foundNumbers best) ≡ R) where
-      pub last-found : v ≡ true → best′ ≡ At i
-          → lastPassing (λ b. surroundsBy strict (b .range) (numbers range)) (blocksLeft s (blocks .first) (i + 1)) (foundNumbers best′) ≡ R
-      last-found f e = rw e (sym (rw f at (last-turn (foundNumbers best))) ∙ inv)
+    -- at a block that passes: the first, or the best so far
+    pub first-found : v ≡ true → {first : Bool} {best : Found} {R : List ℕ} → first ≡ true → Passing first test (blocksLeft s (blocks .first) i) best R → i ∷ [] ≡ R
+    first-found f e r = rw (e, next-left h, sym t ∙ f) at (r .rest)
 
-      pub last-missed : v ≡ false → best′ ≡ best
-          → lastPassing (λ b. surroundsBy strict (b .range) (numbers range)) (blocksLeft s (blocks .first) (i + 1)) (foundNumbers best′) ≡ R
-      last-missed f e = rw e (sym (rw f at (last-turn (foundNumbers best))) ∙ inv)
+    pub last-found : v ≡ true → {first : Bool} (best : Found) {best′ : Found} {R : List ℕ} → first ≡ false → best′ ≡ At i
+        → Passing first test (blocksLeft s (blocks .first) i) best R → Passing first test (blocksLeft s (blocks .first) (i + 1)) best′ R
+    last-found f best e g r =
+        record {
+          none-yet = λ k. absurd (let z : _≡_ {A = ℕ} 0 1 = cc in omega arith);
+          rest = rw (g, e) (sym (rw f at (last-turn (foundNumbers best))) ∙ (rw e at (r .rest)));
+        }
 
-    module _ {R : List ℕ} (inv : firstPassing (λ b. surroundsBy strict (b .range) (numbers range)) (blocksLeft s (blocks .first) i) ≡ R) where
-      pub first-found : v ≡ true → i ∷ [] ≡ R
-      first-found f = rw (next-left h, sym t ∙ f) at inv
-
-      pub first-missed : v ≡ false → firstPassing (λ b. surroundsBy strict (b .range) (numbers range)) (blocksLeft s (blocks .first) (i + 1)) ≡ R
-      first-missed f = rw (next-left h, sym t ∙ f) at inv
+    -- at one that does not
+    pub around-missed : v ≡ false → (first : Bool) (best : Found) {best′ : Found} {R : List ℕ} → best′ ≡ best
+        → Passing first test (blocksLeft s (blocks .first) i) best R → Passing first test (blocksLeft s (blocks .first) (i + 1)) best′ R
+    around-missed f true best g r = rw g (record { none-yet = r .none-yet; rest = rw (next-left h, sym t ∙ f) at (r .rest) })
+    around-missed f false best g r = rw g (record { none-yet = r .none-yet; rest = sym (rw f at (last-turn (foundNumbers best))) ∙ r .rest })
 
   module _ (n k : ℕ) {v : Bool} (t : v ≡ keepsFrom (freeAfter n k) (rangeIn s at w) (numbers range))
       (hits : List ℕ) (z : length hits ≡ 4096) {R : List ℕ}

@@ -4,8 +4,6 @@ use mathlib.Core.Bool.{Bool, true, false, cond, _&&_}
 use mathlib.Core.List.{List}
 use lib.Dec.{eqb, leb}
 use lib.ListN.{length}
-use Rattle.blocks.specs.Blocks.{Block}
-use Rattle.blocks.specs.Relations.{lookup, up}
 use Rattle.address.specs.Ranges.{Range, covers, strictlyCovers, strictlyInside}
 use Rattle.address.specs.Positions.{Wide}
 
@@ -26,8 +24,3 @@ freeAfter n last = cond (eqb n 0) 0 (suc last)
 -- the test of down: strictly inside q, and not before the address that is free
 abbrev pub keepsFrom : ℕ → Range → Range → Bool
 keepsFrom free r q = strictlyInside r q && leb free (r .first)
-
--- lookup, or up
-abbrev pub lastAround : Bool → List Block → Range → List ℕ
-lastAround true bs q = up bs q
-lastAround false bs q = lookup bs q

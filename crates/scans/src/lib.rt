@@ -7,10 +7,11 @@ ghost use Rattle.address.specs.Lists.{any as «any_of»};
 ghost use Rattle.address.specs.Address.{number, numbers};
 ghost use Rattle.address.specs.Ranges.{covers as «covers_of», strictlyInside};
 ghost use Rattle.address.specs.Positions.{numberIn, rangeIn};
-ghost use Rattle.blocks.specs.Relations.{top as «top_of», down as «down_of»};
+ghost use Rattle.blocks.specs.Relations.{down as «down_of»};
+ghost use Rattle.scans.specs.Around.{strictBy, firstBy, aroundIn};
 ghost use Rattle.scans.specs.Standing.{blocksIn, Asked};
 ghost use Rattle.listing.specs.Listing.{foundNumbers, Collected};
-ghost use Rattle.scans.specs.Tests.{Comparable, surroundsBy, freeAfter, keepsFrom, lastAround};
+ghost use Rattle.scans.specs.Tests.{Comparable, surroundsBy, freeAfter, keepsFrom};
 use address::Range;
 use address::at_least_at;
 use address::at_most_at;
@@ -87,18 +88,49 @@ pub fn range_start(places: &[u32; 4096], number: u32) -> usize
     places[number as usize] as usize + 6
 }
 
-// Lookup and up: the last block around the range, strictly or not.
-pub fn last_around(
+// Which of the blocks around a range is asked: the last that covers it, the last strictly around it, or the first such.
+pub enum Around {
+    Lookup,
+    Up,
+    Top,
+}
+
+// Whether it is strictly around the range.
+fn is_strict(which: Around) -> bool
+    ensures { λ r. ⌜ r ≡ strictBy which ⌝ }
+{
+    match which {
+        Around::Lookup => false,
+        Around::Up => true,
+        Around::Top => true,
+    }
+}
+
+// Whether it is the first such block.
+fn is_first(which: Around) -> bool
+    ensures { λ r. ⌜ r ≡ firstBy which ⌝ }
+{
+    match which {
+        Around::Lookup => false,
+        Around::Up => false,
+        Around::Top => true,
+    }
+}
+
+// Lookup, up and top: one block around the range, or none.
+pub fn find_around(
     image: &[u8],
     places: &[u32; 4096],
     blocks: Run,
     range: Range,
-    strict: bool,
+    which: Around,
 ) -> Found
     requires { ⌜ Asked (now image) (now places) blocks range ⌝ }
-    ensures { λ r. ⌜ foundNumbers r ≡ lastAround strict (blocksIn (now (image .entry)) (blocks .first)) (numbers range) ⌝ }
+    ensures { λ r. ⌜ foundNumbers r ≡ aroundIn which (blocksIn (now (image .entry)) (blocks .first)) (numbers range) ⌝ }
 {
     let width = records::width_of(blocks.first);
+    let strict = is_strict(which);
+    let first = is_first(which);
     let mut found = Found::Nothing;
     let mut i = blocks.from;
     while i < blocks.until {
@@ -107,31 +139,14 @@ pub fn last_around(
             return found;
         }
         if surrounds(image, at, width, range, strict) {
+            if first {
+                return Found::At(i);
+            }
             found = Found::At(i);
         }
         i += 1;
     }
     found
-}
-
-// Top: the first block strictly around the range.
-pub fn first_around(image: &[u8], places: &[u32; 4096], blocks: Run, range: Range) -> Found
-    requires { ⌜ Asked (now image) (now places) blocks range ⌝ }
-    ensures { λ r. ⌜ foundNumbers r ≡ «top_of» (blocksIn (now (image .entry)) (blocks .first)) (numbers range) ⌝ }
-{
-    let width = records::width_of(blocks.first);
-    let mut i = blocks.from;
-    while i < blocks.until {
-        let at = range_start(places, i);
-        if !at_least_at(range.first, image, at, width) {
-            return Found::Nothing;
-        }
-        if surrounds(image, at, width, range, true) {
-            return Found::At(i);
-        }
-        i += 1;
-    }
-    Found::Nothing
 }
 
 // Down: the blocks strictly inside the range, without those inside the last one kept.

@@ -1,12 +1,14 @@
 -- `links::hop` meets its contract: all blocks that were hopped over lie inside block i.
-use Prim.Native.Nat.{_+_, _-_}
+use Prim.Native.Nat.{_+_, _-_, _*_, _≤_}
 use mathlib.Core.Path.{_≡_, refl}
 use native.Mathlib.Omega.{arith}
 use borrow.Author.Tests.{not-true, not-false}
-use lib.ListN.{getD}
+use lib.ListN.{length, getD}
+use denote.Ref.{now}
 use Rattle.records.specs.Record.{widthOf}
 use Rattle.image.proofs.Addresses.{wide-family}
 use Rattle.scans.specs.Standing.{blocksIn}
+use Rattle.links.specs.Links.{Link}
 use Rattle.links.proofs.Hops.{Hopping, hops-start, hops-next, hops-stop, hops-end}
 use borrow.Author.Needs.{needs}
 use Rattle.links.proofs.hop.Statement.{statement}
@@ -23,126 +25,92 @@ width-of-requires : tie.Need-width-of-requires Inv-loop μ-loop
 width-of-requires c κs = search needs
 
 mul-end : tie.Need-mul-end Inv-loop μ-loop
-mul-end c =
-    let g = c .before .before .pre .0 in
-    let few = g .few in
-    search needs
+mul-end c = let few = c .before .before .pre .0 .few in search needs
 
 element-copy-out-end : tie.Need-element-copy-out-end Inv-loop μ-loop
-element-copy-out-end c =
-    let g = c .before .before .pre .0 in
-    let few = g .few in
-    search needs
+element-copy-out-end c = let few = c .before .before .pre .0 .few in search needs
+
+-- where block i and the block of this turn stand, and where that block's link leads
+first-fits : (c : tie.Start Inv-loop μ-loop) → let a = c .args in getD (now (a .starts)) (a .i) 0 + 2 * widthOf (a .family) ≤ length (now (a .image))
+first-fits c = c .pre .0 .fits (c .args .i) (c .pre .1)
+
+fits : (c : tie.In-loop Inv-loop μ-loop) → let a = c .before .before .before .before .before .args in
+    getD (now (a .starts)) (c .before .loop .j) 0 + 2 * widthOf (a .family) ≤ length (now (a .image))
+fits c = c .before .before .before .before .before .pre .0 .fits (c .before .loop .j) (c .loop-test .taken)
+
+link : (c : tie.In-loop Inv-loop μ-loop) → let a = c .before .before .before .before .before .args in
+    Link (blocksIn (now (a .image)) (a .family)) (c .before .loop .j) (getD (now (a .links)) (c .before .loop .j) 0)
+link c =
+    let start = c .before .before .before .before .before in
+    start .pre .2 (c .before .loop .j) (omega (arith, c .before .loop .inv .2 .ahead)) (omega (arith, start .pre .0 .counted))
 
 cast-end : tie.Need-cast-end Inv-loop μ-loop
-cast-end c =
-    let g = c .before .before .before .pre .0 in
-    let few = g .few in
-    let a = g .fits (c .before .before .before .args .i) (c .before .before .before .pre .1) in
-    search needs
+cast-end c = let a = first-fits (c .before .before .before) in search needs
 
 add-end : tie.Need-add-end Inv-loop μ-loop
-add-end c =
-    let g = c .before .before .before .pre .0 in
-    let few = g .few in
-    let a = g .fits (c .before .before .before .args .i) (c .before .before .before .pre .1) in
-    search needs
+add-end c = let a = first-fits (c .before .before .before) in search needs
 
 add-j : tie.Need-add-j Inv-loop μ-loop
-add-j c =
-    let g = c .before .before .before .pre .0 in
-    let few = g .few in
-    search needs
+add-j c = let few = c .before .before .before .pre .0 .few in search needs
 
 loop-holds : tie.Need-loop-holds Inv-loop μ-loop
-loop-holds c =
-    let g = c .before .before .before .pre .0 in
-    let few = g .few in
-    (c .before .width-of .ensures .0, refl, hops-start g (c .before .before .before .args .i) (c .before .before .before .pre .1))
+loop-holds c = let start = c .before .before .before in (c .before .width-of .ensures .0, refl, hops-start (start .pre .0) (start .args .i) (start .pre .1))
 
 mul-numbers-at-most : tie.Need-mul-numbers-at-most Inv-loop μ-loop
-mul-numbers-at-most c =
-    let g = c .before .before .before .before .before .pre .0 in
-    let few = g .few in
-    search needs
+mul-numbers-at-most c = let few = c .before .before .before .before .before .pre .0 .few in search needs
 
 element-copy-out-numbers-at-most : tie.Need-element-copy-out-numbers-at-most Inv-loop μ-loop
-element-copy-out-numbers-at-most c =
-    let g = c .before .before .before .before .before .pre .0 in
-    let few = g .few in
-    search needs
+element-copy-out-numbers-at-most c = let few = c .before .before .before .before .before .pre .0 .few in search needs
 
 cast-numbers-at-most : tie.Need-cast-numbers-at-most Inv-loop μ-loop
-cast-numbers-at-most c =
-    let g = c .before .before .before .before .before .before .pre .0 in
-    let few = g .few in
-    let b = g .fits (c .before .before .loop .j) (c .before .loop-test .taken) in
-    search needs
+cast-numbers-at-most c = let b = fits (c .before) in search needs
 
 numbers-at-most-requires : tie.Need-numbers-at-most-requires Inv-loop μ-loop
 numbers-at-most-requires c κs =
-    let g = c .before .before .before .before .before .before .pre .0 in
-    let few = g .few in
-    let a = g .fits (c .before .before .before .before .before .before .args .i) (c .before .before .before .before .before .before .pre .1) in
-    let b = g .fits (c .before .before .loop .j) (c .before .loop-test .taken) in
-    (rw (c .before .before .before .before .width-of .ensures .0) (wide-family (c .before .before .before .before .before .before .args .family)), omega arith, omega arith)
+    let wide = c .before .before .before .before in
+    let a = first-fits (wide .before .before) in
+    let b = fits (c .before) in
+    (rw (wide .width-of .ensures .0) (wide-family (wide .before .before .args .family)), omega arith, omega arith)
 
 returns : tie.Need-returns Inv-loop μ-loop
 returns c =
-    let g = c .before .before .before .before .before .before .before .before .pre .0 in
-    let few = g .few in
-    hops-stop g (c .before .before .before .before .before .before .before .before .args .i) (c .before .before .before .before .before .before .before .before .pre .1) (c .before .before .before .before .loop .j) (c .before .before .before .before .before .before .width-of .result) (c .before .before .before .before .before .before .width-of .ensures .0) (c .before .before .before .before .loop .inv .2) (c .before .before .before .loop-test .taken) (c .before .numbers-at-most .ensures) (not-true _ (c .if1 .taken))
+    let walk = c .before .before .before .before in
+    let wide = walk .before .before in
+    let start = wide .before .before in
+    hops-stop (start .pre .0) (start .args .i) (start .pre .1) (walk .loop .j) (wide .width-of .result) (wide .width-of .ensures .0) (walk .loop .inv .2) (c .before .before .before .loop-test .taken) (c .before .numbers-at-most .ensures) (not-true _ (c .if1 .taken))
 
 mul-j : tie.Need-mul-j Inv-loop μ-loop
-mul-j c =
-    let g = c .before .before .before .before .before .before .before .before .pre .0 in
-    let few = g .few in
-    search needs
+mul-j c = let few = c .before .before .before .before .before .before .before .before .pre .0 .few in search needs
 
 element-copy-out-j : tie.Need-element-copy-out-j Inv-loop μ-loop
-element-copy-out-j c =
-    let g = c .before .before .before .before .before .before .before .before .pre .0 in
-    let few = g .few in
-    search needs
+element-copy-out-j c = let few = c .before .before .before .before .before .before .before .before .pre .0 .few in search needs
 
 cast-j : tie.Need-cast-j Inv-loop μ-loop
 cast-j c =
-    let g = c .before .before .before .before .before .before .before .before .before .pre .0 in
-    let few = g .few in
-    let all = g .counted in
-    let h = c .before .before .before .before .before .loop .inv .2 .ahead in
-    let link = c .before .before .before .before .before .before .before .before .before .pre .2 (c .before .before .before .before .before .loop .j) (omega arith) (omega arith) in
-    let u = link .upto in
-    omega arith
+    let here = c .before .before .before .before in
+    let g = here .before .before .before .before .before .pre .0 in
+    omega (arith, link here .upto, g .counted, g .few)
 
 loop-less : tie.Need-loop-less Inv-loop μ-loop
 loop-less c =
-    let g = c .before .before .before .before .before .before .before .before .before .pre .0 in
-    let few = g .few in
-    let all = g .counted in
-    let h = c .before .before .before .before .before .loop .inv .2 .ahead in
-    let link = c .before .before .before .before .before .before .before .before .before .pre .2 (c .before .before .before .before .before .loop .j) (omega arith) (omega arith) in
-    let u = link .upto in
-    let v = link .ahead in
-    omega arith
+    let here = c .before .before .before .before in
+    omega (arith, link here .upto, link here .ahead, here .before .before .before .before .before .pre .0 .counted)
 
 loop-again : tie.Need-loop-again Inv-loop μ-loop
 loop-again c =
-    let g = c .before .before .before .before .before .before .before .before .before .pre .0 in
-    let few = g .few in
-    let all = g .counted in
-    let h = c .before .before .before .before .before .loop .inv .2 .ahead in
-    let link = c .before .before .before .before .before .before .before .before .before .pre .2 (c .before .before .before .before .before .loop .j) (omega arith) (omega arith) in (
-      c .before .before .before .before .before .loop .inv .0,
-      c .before .before .before .before .before .loop .inv .1,
-      hops-next g (c .before .before .before .before .before .before .before .before .before .args .i) (c .before .before .before .before .before .before .before .before .before .pre .1) (c .before .before .before .before .before .loop .j) (c .before .before .before .before .before .before .before .width-of .result) (c .before .before .before .before .before .before .before .width-of .ensures .0) (c .before .before .before .before .before .loop .inv .2) (c .before .before .before .before .loop-test .taken) (c .before .before .numbers-at-most .ensures) (not-false _ (c .before .if1 .left)) _ link,
+    let here = c .before .before .before .before in
+    let walk = here .before in
+    let wide = walk .before .before in
+    let start = wide .before .before in (
+      walk .loop .inv .0,
+      walk .loop .inv .1,
+      hops-next (start .pre .0) (start .args .i) (start .pre .1) (walk .loop .j) (wide .width-of .result) (wide .width-of .ensures .0) (walk .loop .inv .2) (here .loop-test .taken) (c .before .before .numbers-at-most .ensures) (not-false _ (c .before .if1 .left)) _ (link here),
     )
 
 returns-2 : tie.Need-returns-2 Inv-loop μ-loop
 returns-2 c =
-    let g = c .before .before .before .before .before .pre .0 in
-    let few = g .few in
-    hops-end g (c .before .before .before .before .before .args .i) (c .before .before .before .before .before .pre .1) (c .before .loop .j) (c .before .loop .inv .2) (c .loop-test .left)
+    let start = c .before .before .before .before .before in
+    hops-end (start .pre .0) (start .args .i) (start .pre .1) (c .before .loop .j) (c .before .loop .inv .2) (c .loop-test .left)
 
 pub hop-spec : {M : Type 1} → statement M
 hop-spec =

@@ -37,14 +37,10 @@ cast-links c =
     omega arith
 
 mul-links : tie.Need-mul-links Inv-loop μ-loop
-mul-links c =
-    let g = c .before .before .before .before .before .pre in
-    let few = g .few in search needs
+mul-links c = let few = c .before .before .before .before .before .pre .few in search needs
 
 array-write-links : tie.Need-array-write-links Inv-loop μ-loop
-array-write-links c =
-    let g = c .before .before .before .before .before .pre in
-    let few = g .few in search needs
+array-write-links c = let few = c .before .before .before .before .before .pre .few in search needs
 
 loop-less : tie.Need-loop-less Inv-loop μ-loop
 loop-less c = search needs
