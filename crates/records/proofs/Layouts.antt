@@ -2,7 +2,7 @@
 use mathlib.Core.Path.{_≡_, refl, _∙_, ap}
 use mathlib.Core.Bool.{Bool, true, false, cond}
 use mathlib.Core.List.{List}
-use Prim.Native.Nat.{ℕ, _+_, _-_, _*_, _≤_, _<_}
+use Prim.Native.Nat.{ℕ, _+_, _-_, _≤_, _<_}
 use borrow.Author.Tests.{eq-eqb, ne-eqb}
 use native.Mathlib.Omega.{arith}
 use lib.Dec.{eqb}
@@ -10,10 +10,10 @@ use lib.ListN.{take, drop}
 use lib.Seq.{slice}
 use Rattle.fields.specs.Slices.{part-slice}
 use Rattle.name.specs.Texts.{goodText}
-use Rattle.records.specs.Record.{isBlock, widthOf, goodName, goodTexts, keyOf}
+use Rattle.records.specs.Record.{isBlock, goodName, goodTexts, keyOf}
 use Rattle.records.specs.Place.{Parts, Inside, bytesOf}
 use Rattle.records.specs.Layout.{spanFromTo, partsOf, keySpan, recordOn, LaidOut}
-use Rattle.records.proofs.Shapes.{no-block, a-block}
+use Rattle.records.proofs.Shapes.{no-block}
 use Rattle.records.specs.declared.Layout.{Layout}
 
 either : (f : Parts → ℕ) (x : ℕ) (v : Bool) (a b : Parts) → x ≡ f a → x ≡ f b → x ≡ f (cond v a b)
@@ -26,13 +26,6 @@ module _ (l : Layout) where
 
   pub name-start : l .middle + 3 ≡ partsOf l .name .start
   name-start = either (λ (p : Parts). p .name .start) (l .middle + 3) (isBlock (l .tag)) _ _ refl refl
-
-  module _ (k : 16 ≤ l .tag) (h : l .tag ≤ 18) where
-    pub block-handle : l .start + 6 + 2 * widthOf (l .tag) ≡ partsOf l .handle .start
-    block-handle = rw (a-block (l .tag) k h)
-
-    pub block-name : l .end - 4 ≡ partsOf l .name .end
-    block-name = rw (a-block (l .tag) k h)
 
   module _ (k : 18 < l .tag) where
     pub named-handle : l .start + 3 ≡ partsOf l .handle .start

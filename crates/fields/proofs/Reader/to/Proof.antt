@@ -1,4 +1,4 @@
--- `fields::to` meets its contract: a walk of its MIR, by hand, as that of `next`; `step_to` is called on the slice, the number and the three bytes.
+-- `fields::to` meets its contract: a walk of its MIR, by hand, as that of `after`; `step_to` is called on the slice, the number and the three bytes.
 -- Assumes nothing.
 use mathlib.Core.Path.{_≡_, refl}
 use Prim.Native.Nat.{ℕ, _<_, _^_}

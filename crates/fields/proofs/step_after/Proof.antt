@@ -1,0 +1,17 @@
+-- The field step at the position n fields on.
+use mathlib.Core.Path.{_∙_}
+use borrow.Author.Needs.{needs}
+use Rattle.fields.proofs.step_after.Statement.{statement}
+use Rattle.fields.proofs.step_after.Tie as tie
+
+position-after-requires : tie.Need-position-after-requires
+position-after-requires c κs = search needs
+
+step-at-requires : tie.Need-step-at-requires
+step-at-requires c κs = search needs
+
+returns : tie.Need-returns
+returns c = c .step-at .ensures ∙ rw (c .before .position-after .ensures)
+
+pub step-after-spec : {M : Type 1} → statement M
+step-after-spec = tie.close (tie.spec position-after-requires step-at-requires returns)
