@@ -1,4 +1,4 @@
--- The loop: the open blocks above d have ended, so the place is among the first d.
+-- The loop: the open blocks above d have ended, so the search goes on among the first d (Opens.antt).
 use mathlib.Core.Path.{_≡_, refl, sym, _∙_}
 use Prim.Native.Nat.{ℕ, _+_, _-_, _*_, _≤_}
 use lib.ListN.{length, getD}

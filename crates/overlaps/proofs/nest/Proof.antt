@@ -1,4 +1,4 @@
--- The open blocks above d have ended, so the place is among the first d (Nests.antt).
+-- The open blocks above d have ended, so the search goes on among the first d (image: Opens.antt).
 use borrow.Author.Needs.{needs}
 use mathlib.Core.Path.{_≡_, refl, sym, _∙_, ap, subst}
 use mathlib.Core.Bool.{Bool}
