@@ -14,13 +14,13 @@ use Rattle.name.specs.declared.Text.the-variants.{Handle, Name, Host}
 use Rattle.pattern.specs.declared.Form.{Form}
 use Rattle.pattern.specs.declared.Form.the-variants.{Exact, Asterisk, Unsupported, Malformed}
 
-unfoldable pub isHost : Text → Bool
+abbrev pub isHost : Text → Bool
 isHost Handle = false
 isHost Name = false
 isHost Host = true
 
 -- S9.1: 1 to 64 bytes (host names 253)
-unfoldable pub longest : Text → ℕ
+abbrev pub longest : Text → ℕ
 longest Handle = 64
 longest Name = 64
 longest Host = 253
@@ -64,7 +64,7 @@ matchesForm folded Unsupported pattern name = false
 matchesForm folded Malformed pattern name = false
 
 -- S9.4: names match with ASCII case folded, handles exactly.
-unfoldable pub foldsCase : Text → Bool
+abbrev pub foldsCase : Text → Bool
 foldsCase Handle = false
 foldsCase Name = true
 foldsCase Host = true

@@ -20,11 +20,11 @@ use Rattle.blocks.specs.Scans.{lastPassing, downPass}
 use Rattle.blocks.proofs.Laminar.{Laminar}
 use Rattle.blocks.proofs.Scans.{lookup-scan, up-scan, top-scan}
 use Rattle.blocks.proofs.Select.{None, first-none, last-none}
-use Rattle.scans.specs.Around.{aroundIn, strictBy, firstBy, passing}
+use Rattle.scans.specs.Around.{aroundIn}
 use Rattle.scans.specs.declared.Around.{Around}
 use Rattle.scans.specs.declared.Around.the-variants.{Lookup, Up, Top}
 use Rattle.scans.specs.Standing.{blocksIn, Asked}
-use Rattle.scans.specs.Tests.{surroundsBy, freeAfter, keepsFrom}
+use Rattle.scans.specs.Tests.{surroundsBy, freeAfter, keepsFrom, strictBy, firstBy, passing}
 use Rattle.listing.specs.Listing.{foundNumbers}
 use Rattle.listing.specs.declared.Found.{Found}
 use Rattle.listing.specs.declared.Found.the-variants.{At, Nothing}
