@@ -160,7 +160,7 @@ fn say_decoded(s: &[u8])
     requires { ⌜ length (now s) ≤ 1024 ⌝ }
 {
     let mut buffer = [0u8; 1024];
-    let n = numeral::decode(s, &mut buffer);
+    let n = uri::decode(s, &mut buffer);
     say_hex(&buffer[..n]);
 }
 

@@ -3,7 +3,7 @@ use mathlib.Core.Path.{sym}
 use Prim.Native.Nat.{_-_}
 use lib.Seq.{length-take-le}
 use borrow.Author.Needs.{needs}
-use Rattle.numeral.proofs.Escapes.{front-fits}
+use Rattle.uri.proofs.Escapes.{front-fits}
 use Rattle.text_cases.proofs.say_decoded.Statement.{statement}
 use Rattle.text_cases.proofs.say_decoded.Tie as tie
 
