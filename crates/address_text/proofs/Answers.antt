@@ -7,10 +7,10 @@ use native.Mathlib.Decide.{ℕ-discrete}
 use lib.Dec.{eqb}
 use lib.ListN.{length}
 use borrow.Author.Tests.{eq-eqb, ne-eqb}
-use Rattle.address.specs.Positions.{Wide}
-use Rattle.pieces.proofs.Tests.{or-true}
-use Rattle.listing.specs.declared.Counted.{Counted}
-use Rattle.listing.specs.Writing.{ifRoom, counted, countedOf}
+use Rattle.octets.specs.Positions.{Wide}
+use Rattle.octets.proofs.Connectives.{or-true}
+use Rattle.output.specs.declared.Counted.{Counted}
+use Rattle.output.specs.Writing.{ifRoom, counted, countedOf}
 use Rattle.ip_text.specs.Text.{textOf}
 use Rattle.address_text.specs.Call.{isAddress, writtenOf, textAfter}
 

@@ -8,14 +8,14 @@ use mathlib.Core.Option.{Option, none, some}
 use native.Mathlib.Omega.{arith}
 use lib.Dec.{eqb, leb, ltb}
 use lib.ListN.{length, take, drop, replicate}
-use Rattle.address.specs.Number.{Bytes}
-use Rattle.address.proofs.Below.{digits-none, digits-cons, digits-append, digits-zeros}
+use Rattle.octets.specs.Number.{Bytes}
+use Rattle.octets.proofs.Below.{digits-none, digits-cons, digits-append, digits-zeros}
 use Rattle.numeral.specs.Numeral.{decimal, h16}
 use Rattle.numeral.specs.declared.Number.{Number}
 use Rattle.numeral.specs.declared.Number.the-variants.{Value, Malformed}
 use Rattle.numeral.proofs.Laws.{decimal-le, h16-le}
-use Rattle.pieces.specs.Split.{split}
-use Rattle.pieces.proofs.Found.{none-some, cond-some}
+use Rattle.octets.specs.Split.{split}
+use Rattle.octets.proofs.Found.{none-some, cond-some}
 use Rattle.ip.specs.Ip.{prefixed, joined, exactly, oneByte, twoBytes, octets, ipv4, group, orElse, lastGroup, groups, side, elided, elision, ipv6, withoutZone, addressOf}
 
 pub some-is : {x y : List ℕ} → _≡_ {A = Option (List ℕ)} (some x) (some y) → x ≡ y

@@ -9,11 +9,11 @@ use lib.Dec.{eqb}
 use lib.ListN.{length, take, drop, length-append}
 use lib.Seq.{take-at, drop-append-add}
 use borrow.Author.Tests.{eq-eqb, lt-ltb, le-ltb}
-use Rattle.address.specs.Lists.{contains}
-use Rattle.address.specs.Number.{Digits, Bytes}
-use Rattle.address.proofs.Below.{digits-rest}
-use Rattle.pieces.specs.Split.{split}
-use Rattle.pieces.proofs.Tests.{neither}
+use Rattle.octets.specs.Lists.{contains}
+use Rattle.octets.specs.Number.{Digits, Bytes}
+use Rattle.octets.proofs.Below.{digits-rest}
+use Rattle.octets.specs.Split.{split}
+use Rattle.octets.proofs.Connectives.{neither}
 use Rattle.numeral.specs.Numeral.{digitValue}
 use Rattle.numeral.specs.Digits.{decimalText, hexText, following, spelled}
 use Rattle.numeral.proofs.Digits.{text-some, decimal-read, h16-read}

@@ -10,14 +10,14 @@ use lib.Dec.{eqb, leb, ltb}
 use lib.ListN.{length, getD, take, drop, replicate, length-drop}
 use lib.Seq.{drop-cons, take-at}
 use borrow.Author.Tests.{eqb-true, le-leb, lt-leb, leb-true}
-use Rattle.address.specs.Lists.{contains}
-use Rattle.address.specs.Number.{Digits, Bytes}
-use Rattle.address.specs.Positions.{Wide}
-use Rattle.address.proofs.Below.{digits-none, digits-rest, digits-take, digits-drop}
-use Rattle.pieces.specs.Ascii.{ascii}
-use Rattle.pieces.specs.Split.{split}
-use Rattle.pieces.proofs.Cuts.{split-then, split-whole, contains-known}
-use Rattle.pieces.proofs.Found.{none-some}
+use Rattle.octets.specs.Lists.{contains}
+use Rattle.octets.specs.Number.{Digits, Bytes}
+use Rattle.octets.specs.Positions.{Wide}
+use Rattle.octets.proofs.Below.{digits-none, digits-rest, digits-take, digits-drop}
+use Rattle.octets.specs.Ascii.{ascii}
+use Rattle.octets.specs.Split.{split}
+use Rattle.octets.proofs.Cuts.{split-then, split-whole, contains-known}
+use Rattle.octets.proofs.Found.{none-some}
 use Rattle.numeral.specs.Numeral.{digitValue, h16}
 use Rattle.numeral.specs.Digits.{hexText, following, spelled}
 use Rattle.numeral.proofs.Spelled.{spelled-least, spelled-lacks}

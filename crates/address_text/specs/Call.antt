@@ -4,8 +4,8 @@ use mathlib.Core.Bool.{Bool, cond, _||_}
 use mathlib.Core.List.{List}
 use lib.Dec.{eqb}
 use lib.ListN.{length}
-use Rattle.listing.specs.declared.Counted.{Counted}
-use Rattle.listing.specs.Writing.{ifRoom, counted, countedOf}
+use Rattle.output.specs.declared.Counted.{Counted}
+use Rattle.output.specs.Writing.{ifRoom, counted, countedOf}
 use Rattle.ip_text.specs.Text.{textOf}
 
 -- four bytes or sixteen

@@ -5,10 +5,10 @@ use mathlib.Core.Path.{_≡_, refl}
 use mathlib.Core.List.{List, [], _∷_, map}
 use mathlib.Core.Option.{Option, none, some}
 use lib.ListN.{replicate}
-use Rattle.pieces.specs.Ascii.{ascii}
+use Rattle.octets.specs.Ascii.{ascii}
 use Rattle.ip.specs.Ip.{addressOf}
 use Rattle.ip_text.specs.Text.{textOf}
-use Rattle.listing.specs.Writing.{counted}
+use Rattle.output.specs.Writing.{counted}
 use Rattle.address_text.specs.Call.{writtenOf, textAfter}
 use Rattle.address_text.specs.Computing.{computing}
 

@@ -5,7 +5,7 @@ use mathlib.Core.List.{List}
 use mathlib.Core.Logic.{_↔_}
 use mathlib.Core.Option.{some}
 use lib.ListN.{length, take}
-use Rattle.address.specs.Number.{Bytes}
+use Rattle.octets.specs.Number.{Bytes}
 use Rattle.ip.specs.Ip.{addressOf}
 use Rattle.ip_text.specs.Text.{textOf}
 use Rattle.address_text.specs.Call.{writtenOf, textAfter}

@@ -1,11 +1,11 @@
 // The call that writes the text of an address to a lent buffer.
 ghost use mathlib.Core.Path.{_≡_};
 ghost use lib.ListN.{length};
-ghost use Rattle.address.specs.Positions.{Wide};
+ghost use Rattle.octets.specs.Positions.{Wide};
 ghost use Rattle.ip_text.specs.Text.{textOf};
 ghost use Rattle.address_text.specs.Call.{writtenOf, textAfter};
 use ip_text::put_text;
-use listing::Counted;
+use output::Counted;
 
 // How many bytes the text has: it is written to a buffer that every text fits into.
 fn size_of(address: &[u8]) -> usize

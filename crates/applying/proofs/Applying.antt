@@ -13,7 +13,7 @@ use Rattle.fields.specs.Field.{Head, field, short, headOf}
 use Rattle.fields.specs.Slices.{part-slice}
 use Rattle.records.specs.Record.{Record}
 use Rattle.rows.specs.Entry.{Entry}
-use Rattle.fields.proofs.Starts.{starts}
+use Rattle.fields.proofs.Starts.{starts-field}
 use Rattle.changes.specs.Change as Changes
 use Rattle.changes.specs.Change.{keyed, changeOf, isThere, applied, done, refusedAt, later, afterApplied, changesFrom, changesOf}
 use Rattle.changes.specs.Rank.{rankOf, startsWith}
@@ -30,15 +30,15 @@ use Rattle.merged.proofs.Keys.{keyed-is, rank-key, there-key}
 use Rattle.merged.proofs.Ranks.{count-is, there-none}
 use Rattle.merged.proofs.Rows.{entries-append, field-here}
 
--- the record of a change by its place
-pub record-place : (image changes : List ℕ) (start end : ℕ) → start ≤ end → end ≤ length changes → Recorded (slice start end changes)
+-- the record of a change by its start
+pub record-start : (image changes : List ℕ) (start end : ℕ) → start ≤ end → end ≤ length changes → Recorded (slice start end changes)
     → bytesAt image changes (262144 + start) ≡ slice start end changes
 unfolding bytesAt
-record-place image changes start end h l k =
+record-start image changes start end h l k =
     let s : List ℕ = slice start end changes in
     let n : ℕ = end - start in
     let p : take (end - start) (drop start changes) ≡ slice start end changes = part-slice start end changes h in
-    let x = starts (slice start end changes) (k .tag) (k .contents) [] (k .head) in
+    let x = starts-field (slice start end changes) (k .tag) (k .contents) [] (k .head) in
     let j : slice start end changes ++ drop (end - start) (drop start changes) ≡ drop start changes =
     ap (λ (t : List ℕ). t ++ drop (end - start) (drop start changes)) (sym p) ∙ take-append-drop (end - start) (drop start changes) in
     let e = rw j at (x .followed (drop (end - start) (drop start changes))) in
@@ -84,17 +84,17 @@ module _ (image changes index : List ℕ) (n : ℕ) (k : n ≤ length index) (h 
     add-there t y z = rw (there-is t y ∙ z)
 
     pub add-here : (t : Bool) → t ≡ isThere (keyed tag key) es → t ≡ false → (at : ℕ) → at ≡ rankOf (keyed tag key) es
-        → (place : ℕ) → bytesAt image changes place ≡ s → (after : List ℕ) → after ≡ take at index ++ place ∷ drop at (take n index)
+        → (stands-at : ℕ) → bytesAt image changes stands-at ≡ s → (after : List ℕ) → after ≡ take at index ++ stands-at ∷ drop at (take n index)
         → applied (Changes.add (entryOf s)) es ≡ some (entriesAt image changes after)
-    add-here t y z at a place b after g =
+    add-here t y z at a stands-at b after g =
         let u : at ≡ rankOf (parsedFrom s) es = a ∙ ap (λ (r : Record). rankOf r es) key-is ∙ rank-key (parsedFrom s) es in
         let v : entriesAt image changes after ≡ take at es ++ entryOf s ∷ drop at es =
-        ap (entriesAt image changes) g ∙ entries-append image changes (take at index) (place ∷ drop at (take n index))
+        ap (entriesAt image changes) g ∙ entries-append image changes (take at index) (stands-at ∷ drop at (take n index))
         ∙ rw (front-is at (rw u (rank-few (parsedFrom s))), back-is at, b) in
         rw (there-is t y ∙ z) (ap some (insert-at (entryOf s) es ∙ rw (← u) (sym v)))
 
-    pub add-place : (at : ℕ) → at ≡ rankOf (keyed tag key) es → at ≤ n
-    add-place at a = omega (arith, a, rank-few (keyed tag key))
+    pub add-start : (at : ℕ) → at ≡ rankOf (keyed tag key) es → at ≤ n
+    add-start at a = omega (arith, a, rank-few (keyed tag key))
 
   -- a removal
   module _ (r : Record) where
@@ -110,8 +110,8 @@ module _ (image changes index : List ℕ) (n : ℕ) (k : n ≤ length index) (h 
           by-test true p q = sym p
           by-test false p q = absurd (false≢true (sym q))
 
-      pub remove-place : at < n
-      remove-place = by-room (ltb at n) refl
+      pub remove-start : at < n
+      remove-start = by-room (ltb at n) refl
         where
           by-room : (v : Bool) → ltb at n ≡ v → at < n
           by-room true p = ltb-true at n p
@@ -123,7 +123,7 @@ module _ (image changes index : List ℕ) (n : ℕ) (k : n ≤ length index) (h 
           let q : at + 1 ≡ suc at = omega arith in
           let v : entriesAt image changes after ≡ take at es ++ drop (suc at) es =
           ap (entriesAt image changes) g ∙ entries-append image changes (take at index) (drop (at + 1) (take n index))
-          ∙ rw (front-is at (omega (arith, remove-place)), back-is (at + 1), q) in
+          ∙ rw (front-is at (omega (arith, remove-start)), back-is (at + 1), q) in
           rw there (ap some (without-at r es (h .ordered) w ∙ rw (← a) (sym v)))
 
 -- The changes one after another

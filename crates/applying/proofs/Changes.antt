@@ -8,20 +8,21 @@ use borrow.Author.Tests.{le-leb, lt-leb, leb-true, eq-eqb, ne-eqb, eqb-true, eqb
 use lib.Dec.{leb, eqb}
 use lib.ListN.{length, getD, take, drop, length-take, length-drop}
 use lib.Seq.{slice, take-all, slice-cons, length-slice}
+use Rattle.registry.specs.Tags.{isKnown, widthOf}
 use Rattle.address.specs.Ranges.{wellFormed}
-use Rattle.address.specs.Positions.{numberIn}
+use Rattle.octets.specs.Positions.{numberIn}
 use Rattle.fields.specs.Field.{Head, field, short, headOf, sizeOf}
-use Rattle.fields.specs.Place.{fieldAt}
+use Rattle.fields.specs.Positions.{fieldAt}
 use Rattle.fields.specs.declared.Field.{Field}
 use Rattle.fields.specs.declared.Field.the-variants.{Whole, Short}
-use Rattle.name.specs.Texts.{goodText, goodHost}
-use Rattle.records.specs.Record.{Record, isKnown, widthOf, goodName}
+use Rattle.texts.specs.Texts.{goodText, goodHost}
+use Rattle.records.specs.Record.{Record, goodName}
 use Rattle.records.specs.Judge.{Judged, bad, good, judge}
 use Rattle.records.proofs.Accepted.{and-right}
 use Rattle.records.proofs.Shapes.{no-block, a-block}
 use Rattle.image.specs.Image.{sound, imageFrom}
 use Rattle.image.specs.Part.{recordsOf}
-use Rattle.image.specs.Place.{verdictOf}
+use Rattle.image.specs.Checking.{verdictOf}
 use Rattle.image.specs.declared.Verdict.{Verdict}
 use Rattle.image.specs.declared.Verdict.the-variants.{Sound, Defective}
 use Rattle.image.proofs.Soundness.{is-sound, counted}
@@ -85,8 +86,8 @@ module _ (s : List ℕ) where
         by-count true x = add-one (f ∙ ap Sound (eqb-true count 1 x))
         by-count false x = add-none (λ z. let k : count ≡ 1 = cc in eqb-false count 1 x k)
 
-    pub add-defective : (defect place : ℕ) → v ≡ Defective defect place → Addition s false
-    add-defective defect place f = add-none (λ z. let k : _≡_ {A = ℕ} 0 1 = cc in omega arith)
+    pub add-defective : (defect stands-at : ℕ) → v ≡ Defective defect stands-at → Addition s false
+    add-defective defect stands-at f = add-none (λ z. let k : _≡_ {A = ℕ} 0 1 = cc in omega arith)
 
 -- Removals
 

@@ -5,10 +5,11 @@ ghost use mathlib.Core.Option.{none, some};
 ghost use Prim.Native.Nat.{_+_, _-_, _≤_, _<_};
 ghost use lib.ListN.{length, getD, take};
 ghost use lib.Seq.{slice};
+ghost use Rattle.registry.specs.Tags.{entity, ipv4Network};
+ghost use Rattle.registry.specs.Limits.{mostImage, mostRecords};
 ghost use Rattle.changes.specs.Change.{add as «add_of», remove as «remove_of», keyed, goodKey, applied};
 ghost use Rattle.merged.specs.Held.{entryOf, entriesAt, Recorded, Held, Key};
 ghost use Rattle.applying.specs.Steps.{Addition, Removal, ChangeAt, AppliedTo};
-use address::numbers_at_most;
 use fields::Field;
 use fields::step_at;
 use image::Verdict;
@@ -18,15 +19,21 @@ use merged::is_there;
 use merged::key_of;
 use merged::rank;
 use merged::remove_at;
-use records::width_of;
+use registry::AS_BLOCK;
+use registry::ENTITY;
+use registry::IPV4_NETWORK;
+use registry::MOST_IMAGE;
+use registry::PerRecord;
+use registry::width_of;
+use words::numbers_at_most;
 
 // Whether this is a whole record without defects 3, 4 and 5, and nothing after it: one record without a defect. The pass over it writes to the
-// places, which nobody reads.
-fn good_record(r: &[u8], places: &mut [u32; 4096]) -> bool
-    requires { ⌜ (length (now r) ≤ 262144) × (length (now places) ≡ 4096) ⌝ }
-    ensures { λ b. ⌜ Addition (now (r .entry)) b × (length (now (places .exit)) ≡ 4096) ⌝ }
+// starts, which nobody reads.
+fn good_record(r: &[u8], starts: &mut PerRecord) -> bool
+    requires { ⌜ (length (now r) ≤ mostImage) × (length (now starts) ≡ mostRecords) ⌝ }
+    ensures { λ b. ⌜ Addition (now (r .entry)) b × (length (now (starts .exit)) ≡ mostRecords) ⌝ }
 {
-    match index_from(r, 0, places) {
+    match index_from(r, 0, starts) {
         Verdict::Sound(count) => count == 1,
         Verdict::Defective(_, _) => false,
     }
@@ -34,20 +41,20 @@ fn good_record(r: &[u8], places: &mut [u32; 4096]) -> bool
 
 // Whether the key is of the tag's form: range, name or handle.
 fn good_key(tag: u8, key: &[u8]) -> bool
-    requires { ⌜ (16 ≤ tag) × (tag ≤ 21) ⌝ }
+    requires { ⌜ (ipv4Network ≤ tag) × (tag ≤ entity) ⌝ }
     ensures { λ b. ⌜ b ≡ goodKey tag (now (key .entry)) ⌝ }
 {
-    if tag <= 0x12 {
+    if tag <= AS_BLOCK {
         let width = width_of(tag);
         if key.len() != 2 * width {
             return false;
         }
         return numbers_at_most(key, 0, key, width, width);
     }
-    if tag == 0x15 {
-        return name::text_ok(key, 0x21);
+    if tag == ENTITY {
+        return texts::text_ok(key, 0x21);
     }
-    name::host_ok(key)
+    texts::host_ok(key)
 }
 
 // Whether this is a record tag's byte and then the bare key of one to remove.
@@ -58,10 +65,10 @@ pub fn good_removal(r: &[u8]) -> bool
         return false;
     }
     let tag = r[0];
-    if tag < 0x10 {
+    if tag < IPV4_NETWORK {
         return false;
     }
-    if 0x15 < tag {
+    if ENTITY < tag {
         return false;
     }
     good_key(tag, &r[1..])
@@ -74,15 +81,15 @@ enum Change {
     Malformed,
 }
 
-fn change_at(changes: &[u8], at: usize, places: &mut [u32; 4096]) -> Change
-    requires { ⌜ (at ≤ length (now changes)) × (length (now changes) ≤ 65536) × (length (now places) ≡ 4096) ⌝ }
-    ensures { λ r. ⌜ ChangeAt (now (changes .entry)) at r × (length (now (places .exit)) ≡ 4096) ⌝ }
+fn change_at(changes: &[u8], at: usize, starts: &mut PerRecord) -> Change
+    requires { ⌜ (at ≤ length (now changes)) × (length (now changes) ≤ 65536) × (length (now starts) ≡ mostRecords) ⌝ }
+    ensures { λ r. ⌜ ChangeAt (now (changes .entry)) at r × (length (now (starts .exit)) ≡ mostRecords) ⌝ }
 {
     let Field::Whole { tag, start, end } = step_at(changes, at) else {
         return Change::Malformed;
     };
     if tag == 0x30 {
-        if good_record(&changes[start..end], places) {
+        if good_record(&changes[start..end], starts) {
             return Change::Add { start, end };
         }
         return Change::Malformed;
@@ -118,7 +125,7 @@ fn add<'a>(
     if is_there(image, changes, index, n, at, tag, key) {
         return false;
     }
-    insert_at(index, n, at, (262144 + start) as u32);
+    insert_at(index, n, at, (MOST_IMAGE + start) as u32);
     true
 }
 
@@ -159,10 +166,10 @@ pub fn apply<'a>(
     changes: &'a [u8],
     index: &mut [u32; 9600],
     count: usize,
-    places: &mut [u32; 4096],
+    starts: &mut PerRecord,
 ) -> Applied
-    requires { ⌜ (length (now index) ≡ 9600) × (count ≤ 4096) × (length (now changes) ≤ 65536) × Held (now image) (now changes) (take count (now index))
-        × (length (now places) ≡ 4096) ⌝ }
+    requires { ⌜ (length (now index) ≡ 9600) × (count ≤ mostRecords) × (length (now changes) ≤ 65536) × Held (now image) (now changes) (take count (now index))
+        × (length (now starts) ≡ mostRecords) ⌝ }
     ensures { λ r. ⌜ AppliedTo (now (image .entry)) (now (changes .entry))
         (entriesAt (now (image .entry)) (now (changes .entry)) (take count (now (index .entry)))) (now (index .exit)) r
         × (length (now (index .exit)) ≡ 9600) ⌝ }
@@ -170,7 +177,7 @@ pub fn apply<'a>(
     let mut n = count;
     let mut at: usize = 0;
     while at < changes.len() {
-        match change_at(changes, at, places) {
+        match change_at(changes, at, starts) {
             Change::Add { start, end } => {
                 if !add(image, changes, index, n, start, end) {
                     return Applied::RefusedAt(at);

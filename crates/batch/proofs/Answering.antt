@@ -8,15 +8,15 @@ use borrow.Author.Tests.{lt-ltb, le-ltb}
 use borrow.Rule.Slice.PartMut.{putMid}
 use lib.ListN.{length, take, drop, length-take}
 use lib.Seq.{drop-at, drop-drop}
-use Rattle.pieces.proofs.Pieces.{rest-is}
-use Rattle.path.specs.Places.{piecesFrom, part, PieceAt}
+use Rattle.octets.proofs.Pieces.{rest-is}
+use Rattle.path.specs.Positions.{piecesFrom, part, PieceAt}
 use Rattle.path.proofs.Among.{from-start, from-end}
 use Rattle.image.specs.Image.{Image, imageOf}
-use Rattle.image.specs.Place.{verdictOf}
+use Rattle.image.specs.Checking.{verdictOf}
 use Rattle.image.specs.declared.Verdict.the-variants.{Sound}
 use Rattle.image.proofs.Soundness.{is-sound}
-use Rattle.listing.specs.Writing.{Written, Reached}
-use Rattle.listing.proofs.Writing.{written-over, written-length, rest-length, rest-put, at-start, next-part, at-end}
+use Rattle.output.specs.Writing.{Written, Reached}
+use Rattle.output.proofs.Writing.{written-over, written-length, rest-length, rest-put, at-start, next-part, at-end}
 use Rattle.query.specs.declared.Kind.the-variants as Kind
 use Rattle.answers.specs.declared.Answer.{Answer}
 use Rattle.answers.specs.Reply.{Reply, ofReason, refusal, line, listAfter}

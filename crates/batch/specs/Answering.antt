@@ -3,7 +3,7 @@ use Prim.Native.Nat.{ℕ}
 use mathlib.Core.Path.{_≡_}
 use mathlib.Core.List.{List}
 use lib.ListN.{length}
-use Rattle.listing.specs.Writing.{over}
+use Rattle.output.specs.Writing.{over}
 use Rattle.answers.specs.Reply.{Reply}
 use Rattle.batches.specs.Batch.{lines}
 

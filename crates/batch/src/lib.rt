@@ -5,7 +5,7 @@ ghost use mathlib.Core.List.{[], _++_};
 ghost use lib.ListN.{length, drop};
 ghost use Rattle.image.specs.Image.{imageOf};
 ghost use Rattle.image.specs.Index.{Indexed};
-ghost use Rattle.listing.specs.Writing.{Written};
+ghost use Rattle.output.specs.Writing.{Written};
 ghost use Rattle.answers.specs.Reply.{line};
 ghost use Rattle.answers.specs.Answered.{replyOf, Answered};
 ghost use Rattle.calls.specs.Calls.{answerIn};
@@ -13,6 +13,7 @@ ghost use Rattle.batches.specs.Batch.{pathsOf, answersIn, batchIn};
 ghost use Rattle.batch.specs.Answering.{Answering};
 use answers::Answer;
 use query::Kind;
+use registry::PerRecord;
 
 // The four numbers of an answer, to the first places of the list.
 fn write_head(a: Answer, list: &mut [u32])
@@ -27,17 +28,11 @@ fn write_head(a: Answer, list: &mut [u32])
 }
 
 // Answers one path: status, reason, kind and count, then the record numbers. Gives how many places were written.
-fn answer_path(
-    path: &[u8],
-    image: &[u8],
-    places: &[u32; 4096],
-    count: u32,
-    list: &mut [u32],
-) -> usize
-    requires { ⌜ Indexed (now image) count (now places) × (4 ≤ length (now list)) ⌝ }
+fn answer_path(path: &[u8], image: &[u8], starts: &PerRecord, count: u32, list: &mut [u32]) -> usize
+    requires { ⌜ Indexed (now image) count (now starts) × (4 ≤ length (now list)) ⌝ }
     ensures { λ r. ⌜ Written (line (answerIn (now (path .entry)) (imageOf (now (image .entry))) (length (now (list .entry)) - 4))) (now (list .entry)) (now (list .exit)) r ⌝ }
 {
-    let a = calls::answer(path, image, places, count, &mut list[4..]);
+    let a = calls::answer(path, image, starts, count, &mut list[4..]);
     write_head(a, list);
     4 + answers::reports(a) as usize
 }
@@ -56,14 +51,8 @@ fn count_paths(text: &[u8]) -> usize
 }
 
 // Answers the paths of a text, one after another, until fewer than four places are left. Gives how many were answered.
-fn answer_paths(
-    text: &[u8],
-    image: &[u8],
-    places: &[u32; 4096],
-    count: u32,
-    list: &mut [u32],
-) -> u32
-    requires { ⌜ Indexed (now image) count (now places) × (length (pathsOf (now text)) ≤ 64) ⌝ }
+fn answer_paths(text: &[u8], image: &[u8], starts: &PerRecord, count: u32, list: &mut [u32]) -> u32
+    requires { ⌜ Indexed (now image) count (now starts) × (length (pathsOf (now text)) ≤ 64) ⌝ }
     ensures { λ r. ⌜ Answering (answersIn (imageOf (now (image .entry))) (pathsOf (now (text .entry))) (length (now (list .entry)))) (now (list .entry)) (now (list .exit)) r ⌝ }
 {
     let mut answered: u32 = 0;
@@ -74,7 +63,7 @@ fn answer_paths(
             return answered;
         }
         let end = path::piece_end(text, b'\n', start);
-        at += answer_path(&text[start..end], image, places, count, &mut list[at..]);
+        at += answer_path(&text[start..end], image, starts, count, &mut list[at..]);
         answered += 1;
         start = end + 1;
     }
@@ -82,19 +71,13 @@ fn answer_paths(
 }
 
 // Answers the paths of a text from a sound image.
-pub fn answer(
-    text: &[u8],
-    image: &[u8],
-    places: &[u32; 4096],
-    count: u32,
-    list: &mut [u32],
-) -> Answer
-    requires { ⌜ Indexed (now image) count (now places) ⌝ }
+pub fn answer(text: &[u8], image: &[u8], starts: &PerRecord, count: u32, list: &mut [u32]) -> Answer
+    requires { ⌜ Indexed (now image) count (now starts) ⌝ }
     ensures { λ r. ⌜ Answered (batchIn (pathsOf (now (text .entry))) (imageOf (now (image .entry))) (length (now (list .entry)))) r (now (list .entry)) (now (list .exit)) ⌝ }
 {
     if 64 < count_paths(text) {
         return answers::reply(10, Kind::None, 0);
     }
-    let answered = answer_paths(text, image, places, count, list);
+    let answered = answer_paths(text, image, starts, count, list);
     answers::reply(0, Kind::None, answered)
 }

@@ -5,7 +5,7 @@ use mathlib.Core.List.{List, [], _∷_, _++_}
 use mathlib.Core.Bool.{cond}
 use lib.Dec.{ltb}
 use lib.ListN.{length}
-use Rattle.pieces.specs.Split.{split}
+use Rattle.octets.specs.Split.{split}
 use Rattle.image.specs.Image.{Image, sound, defective, imageOf}
 use Rattle.query.specs.declared.Kind.the-variants as Kind
 use Rattle.answers.specs.Reply.{Reply, ofReason, refusal, ofDefect, line}
@@ -22,11 +22,11 @@ lines (reply ∷ replies) = line reply ++ lines replies
 
 -- Each answer equals that of a single call whose list is the places left after its four numbers. If fewer than four places are left, it stops.
 unfoldable pub answersIn : Image → List (List ℕ) → ℕ → List Reply
-answersIn image [] places = []
-answersIn image (path ∷ paths) places =
-    let reply : Reply = answerIn path image (places - 4) in
-    let rest : List Reply = answersIn image paths (places - length (line reply)) in
-    cond (ltb places 4) [] (reply ∷ rest)
+answersIn image [] room = []
+answersIn image (path ∷ paths) room =
+    let reply : Reply = answerIn path image (room - 4) in
+    let rest : List Reply = answersIn image paths (room - length (line reply)) in
+    cond (ltb room 4) [] (reply ∷ rest)
 
 -- The call's own reason is 0, with the number of paths answered as count; its own kind is always 0.
 unfoldable pub ofAnswers : List Reply → Reply
@@ -34,9 +34,9 @@ ofAnswers replies = ofReason 0 Kind.None (length replies) (lines replies)
 
 -- A bad image gives the call reason 2, more than 64 paths reason 10, checked after it; both write nothing.
 unfoldable pub batchIn : List (List ℕ) → Image → ℕ → Reply
-batchIn paths (defective defect place) places = ofDefect defect place
-batchIn paths (sound records) places = cond (ltb 64 (length paths)) (refusal 10) (ofAnswers (answersIn (sound records) paths places))
+batchIn paths (defective defect place) room = ofDefect defect place
+batchIn paths (sound records) room = cond (ltb 64 (length paths)) (refusal 10) (ofAnswers (answersIn (sound records) paths room))
 
 -- `records` of the reply are all the numbers that are written; places after the last answer are unchanged, as `listAfter` says of every call.
 unfoldable pub batchOf : List ℕ → List ℕ → ℕ → Reply
-batchOf text image places = batchIn (pathsOf text) (imageOf image) places
+batchOf text image room = batchIn (pathsOf text) (imageOf image) room

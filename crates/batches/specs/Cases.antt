@@ -4,7 +4,7 @@ use Prim.Native.String.{String}
 use mathlib.Core.Path.{_≡_, refl}
 use mathlib.Core.List.{List, [], _∷_, map}
 use lib.ListN.{replicate, take}
-use Rattle.pieces.specs.Ascii.{ascii}
+use Rattle.octets.specs.Ascii.{ascii}
 use Rattle.calls.specs.Cases.{registryS}
 use Rattle.calls.specs.Vectors.{whole}
 use Rattle.batches.specs.Batch.{batchOf}
@@ -13,12 +13,12 @@ use Rattle.batches.specs.Computing.{computing}
 -- a text, the places of the list, how many paths are answered, and what is written
 pub record Case : Type 0 where
   pub text : String
-  pub places : ℕ
+  pub room : ℕ
   pub count : ℕ
   pub written : List ℕ
 
 abbrev batch : String → ℕ → ℕ → List ℕ → Case
-batch text places count written = record { text = text; places = places; count = count; written = written }
+batch text room count written = record { text = text; room = room; count = count; written = written }
 
 unfoldable pub cases : List Case
 cases =
@@ -40,7 +40,7 @@ cases =
     ∷ []
 
 pub cases-hold :
-    map (λ (c : Case). whole (batchOf (ascii (c .text)) registryS (c .places))) cases
+    map (λ (c : Case). whole (batchOf (ascii (c .text)) registryS (c .room))) cases
     ≡ map (λ (c : Case). 200 ∷ 0 ∷ 0 ∷ 0 ∷ c .count ∷ 0 ∷ 0 ∷ c .written) cases
 unfolding cases registryS whole computing
 cases-hold = refl

@@ -8,12 +8,12 @@ use native.Mathlib.Numerals.{add-one}
 use borrow.Author.Tests.{le-leb, leb-false}
 use lib.Dec.{leb, ltb}
 use lib.ListN.{drop, getD}
+use Rattle.registry.specs.Tags.{widthOf}
 use Rattle.address.specs.Ranges.{Range}
-use Rattle.address.specs.Positions.{numberIn}
+use Rattle.octets.specs.Positions.{numberIn}
 use Rattle.address.proofs.Covering.{not-leb}
-use Rattle.records.specs.Record.{widthOf}
-use Rattle.blocks.specs.Scans.{gapPass, gapIn}
-use Rattle.blocks.proofs.Laminar.{Laminar, accepted-laminar}
+use Rattle.forest.specs.Scans.{gapPass, gapIn}
+use Rattle.forest.proofs.Laminar.{Laminar, accepted-laminar}
 use Rattle.scans.specs.Standing.{blocksIn}
 use Rattle.links.specs.Links.{nth, Link}
 use Rattle.bottom.specs.Testing.{Testable}
@@ -30,7 +30,7 @@ pub record Walking (s : List ℕ) (family i : ℕ) (a : Bool) (j e free limit : 
   pub enough : free ≤ limit
   pub left : gapPass (ranged s family i) free limit (drop j (blocksIn s family)) ≡ a
 
-module _ {s : List ℕ} {family : ℕ} {starts links : List ℕ} {n i : ℕ} (r : Testable s family starts links n i) where
+module _ {s : List ℕ} {family : ℕ} {firsts links : List ℕ} {n i : ℕ} (r : Testable s family firsts links n i) where
   laminar : Laminar (blocksIn s family)
   laminar = accepted-laminar (blocksIn s family) (r .gathered .nested)
 
@@ -39,14 +39,14 @@ module _ {s : List ℕ} {family : ℕ} {starts links : List ℕ} {n i : ℕ} (r 
 
   -- where the code reads the ends of block k, at the family's width
   module _ {width : ℕ} (e : width ≡ widthOf family) where
-    first-at : (k : ℕ) → k < n → numberIn s (getD starts k 0) width ≡ ranged s family k .first
+    first-at : (k : ℕ) → k < n → numberIn s (getD firsts k 0) width ≡ ranged s family k .first
     first-at k h = rw e (sym (ap (λ (x : Range). x .first) (r .gathered .ranges k h)))
 
-    last-at : (k : ℕ) → k < n → numberIn s (getD starts k 0 + width) width ≡ ranged s family k .last
+    last-at : (k : ℕ) → k < n → numberIn s (getD firsts k 0 + width) width ≡ ranged s family k .last
     last-at k h = rw e (sym (ap (λ (x : Range). x .last) (r .gathered .ranges k h)))
 
     -- free and limit are the first and the last address that block i and the range have
-    pub whole : (q : Range) {free limit : ℕ} → free ≡ max (q .first) (numberIn s (getD starts i 0) width) → limit ≡ min (q .last) (numberIn s (getD starts i 0 + width) width)
+    pub whole : (q : Range) {free limit : ℕ} → free ≡ max (q .first) (numberIn s (getD firsts i 0) width) → limit ≡ min (q .last) (numberIn s (getD firsts i 0 + width) width)
         → gapPass (ranged s family i) free limit (blocksIn s family) ≡ gapIn (blocksIn s family) q (ranged s family i)
     unfolding gapIn
     whole q f g = rw (f, g, first-at i (r .known), last-at i (r .known))
@@ -86,14 +86,14 @@ module _ {s : List ℕ} {family : ℕ} {starts links : List ℕ} {n i : ℕ} (r 
       turn = sym (child laminar i m (w .link) free limit j (w .ahead) b) ∙ w .left
 
       -- u is whether the child begins at what is free or before, v whether it reaches the limit
-      module _ {width : ℕ} (e : width ≡ widthOf family) {first : ℕ} (f : first ≡ numberIn s (getD starts j 0) width) {u : Bool} (x : u ≡ leb first free) where
+      module _ {width : ℕ} (e : width ≡ widthOf family) {first : ℕ} (f : first ≡ numberIn s (getD firsts j 0) width) {u : Bool} (x : u ≡ leb first free) where
         begins : (t : Bool) → u ≡ t → ltb free (ranged s family j .first) ≡ not t
         begins t h = rw (← h, ← first-at e j child-known, ← f) (sym (not-leb first free x))
 
         pub walk-gap : u ≡ false → true ≡ a
         walk-gap h = enough-free ∙ (rw (begins false h) at turn)
 
-        module _ (h : u ≡ true) {last : ℕ} (g : last ≡ numberIn s (getD starts j 0 + width) width) {v : Bool} (y : v ≡ leb limit last) where
+        module _ (h : u ≡ true) {last : ℕ} (g : last ≡ numberIn s (getD firsts j 0 + width) width) {v : Bool} (y : v ≡ leb limit last) where
           reaches : v ≡ leb limit (ranged s family j .last)
           reaches = rw (← last-at e j child-known, ← g) y
 

@@ -10,11 +10,11 @@ use lib.Dec.{leb, ltb}
 use lib.ListN.{length, drop, length-drop}
 use lib.Seq.{drop-cons, drop-drop, getD-drop}
 use Rattle.address.specs.Ranges.{Range, strictlyInside}
-use Rattle.blocks.specs.Blocks.{Block}
-use Rattle.blocks.specs.Scans.{gapPass}
-use Rattle.address.proofs.Tests.{is-true, is-false}
+use Rattle.forest.specs.Blocks.{Block}
+use Rattle.forest.specs.Scans.{gapPass}
+use Rattle.octets.proofs.Tests.{is-true, is-false}
 use Rattle.address.proofs.Geometry.{Proper, Strictly, inside-iff}
-use Rattle.blocks.proofs.Laminar.{Laminar, empty, cons, Before, around, left}
+use Rattle.forest.proofs.Laminar.{Laminar, empty, cons, Before, around, left}
 use Rattle.links.specs.Links.{absent, nth, Link}
 use Rattle.links.proofs.Indices.{nth-proper, nth-before, begins-inside}
 

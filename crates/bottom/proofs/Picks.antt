@@ -6,20 +6,20 @@ use mathlib.Core.List.{List, [], _∷_, _++_}
 use native.Mathlib.Omega.{arith}
 use lib.Dec.{T}
 use lib.ListN.{length, take, drop, set, length-set}
-use Rattle.address.specs.Lists.{any}
+use Rattle.octets.specs.Lists.{any}
 use Rattle.address.specs.Ranges.{Range, strictlyInside}
-use Rattle.blocks.specs.Blocks.{Block}
-use Rattle.blocks.specs.Defects.{accepted}
-use Rattle.blocks.specs.Relations.{select, onlyIf, bottom}
-use Rattle.blocks.specs.Scans.{gapIn}
-use Rattle.blocks.proofs.Bottom.{bottom-scan}
+use Rattle.forest.specs.Blocks.{Block}
+use Rattle.forest.specs.Defects.{accepted}
+use Rattle.forest.specs.Relations.{select, onlyIf, bottom}
+use Rattle.forest.specs.Scans.{gapIn}
+use Rattle.forest.proofs.Bottom.{bottom-scan}
 use Rattle.scans.specs.Standing.{blocksIn}
-use Rattle.listing.specs.Listing.{Collected}
-use Rattle.listing.proofs.Emit.{one-more}
+use Rattle.output.specs.Listing.{Collected}
+use Rattle.output.proofs.Emit.{one-more}
 use Rattle.links.specs.Links.{nth, Gathered}
 use Rattle.bottom.proofs.Tests.{select-one, select-none}
 
-module _ {s : List ℕ} {family : ℕ} {starts : List ℕ} {n : ℕ} (g : Gathered s family starts n) (i : ℕ) (h : i < n) (f : Block → Bool)
+module _ {s : List ℕ} {family : ℕ} {firsts : List ℕ} {n : ℕ} (g : Gathered s family firsts n) (i : ℕ) (h : i < n) (f : Block → Bool)
     {v : Bool} (t : v ≡ f (nth (blocksIn s family) i)) (hits : List ℕ) (m : ℕ) (full : length hits ≡ 4096) {R : List ℕ}
     (inv : take m hits ++ select f (drop i (blocksIn s family)) ≡ R) where
   pub pick : v ≡ true → m < 4096 → (number : ℕ) → nth (blocksIn s family) i .number ≡ number

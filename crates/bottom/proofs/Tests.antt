@@ -8,16 +8,16 @@ use native.Mathlib.Numerals.{add-one}
 use lib.Dec.{T}
 use lib.ListN.{length, drop, getD, drop-of-length-le}
 use lib.Seq.{drop-cons}
-use Rattle.records.specs.Record.{widthOf}
+use Rattle.registry.specs.Tags.{widthOf}
 use Rattle.image.proofs.Addresses.{wide-family}
-use Rattle.blocks.specs.Blocks.{Block}
-use Rattle.blocks.specs.Relations.{select}
-use Rattle.blocks.proofs.Select.{select-kept, select-dropped}
+use Rattle.forest.specs.Blocks.{Block}
+use Rattle.forest.specs.Relations.{select}
+use Rattle.forest.proofs.Select.{select-kept, select-dropped}
 use Rattle.scans.specs.Standing.{blocksIn}
 use Rattle.scans.specs.Tests.{Comparable}
 use Rattle.links.specs.Links.{absent, nth, Gathered}
 
-module _ {s : List ℕ} {family : ℕ} {starts : List ℕ} {n : ℕ} (g : Gathered s family starts n) where
+module _ {s : List ℕ} {family : ℕ} {firsts : List ℕ} {n : ℕ} (g : Gathered s family firsts n) where
   pub none-left : (i : ℕ) → n ≤ i → drop i (blocksIn s family) ≡ []
   none-left i h = let k : length (blocksIn s family) ≤ i = omega (arith, g .counted) in drop-of-length-le (blocksIn s family) k
 
@@ -25,7 +25,7 @@ module _ {s : List ℕ} {family : ℕ} {starts : List ℕ} {n : ℕ} (g : Gather
     pub one-left : drop i (blocksIn s family) ≡ nth (blocksIn s family) i ∷ drop (i + 1) (blocksIn s family)
     one-left = rw (add-one i) (drop-cons (blocksIn s family) i absent (omega (arith, g .counted)))
 
-    pub comparable-at : {w : ℕ} → w ≡ widthOf family → Comparable s (getD starts i 0) w
+    pub comparable-at : {w : ℕ} → w ≡ widthOf family → Comparable s (getD firsts i 0) w
     comparable-at e = record { wide = rw e (wide-family family); fits = rw e (g .fits i h) }
 
     module _ (f : Block → Bool) {v : Bool} (t : v ≡ f (nth (blocksIn s family) i)) where

@@ -5,7 +5,7 @@ use Rattle.scans.specs.Standing.{blocksIn}
 use Rattle.links.specs.Links.{Linked, Gathered}
 
 -- what the test of block i asks
-pub record Testable (s : List ℕ) (family : ℕ) (starts links : List ℕ) (n i : ℕ) : Type 0 where
-  pub gathered : Gathered s family starts n
+pub record Testable (s : List ℕ) (family : ℕ) (firsts links : List ℕ) (n i : ℕ) : Type 0 where
+  pub gathered : Gathered s family firsts n
   pub linked : Linked (blocksIn s family) links 0
   pub known : i < n

@@ -2,24 +2,27 @@
 ghost use mathlib.Core.Path.{_≡_};
 ghost use Prim.Native.Nat.{suc, _≤_, _<_, max, min};
 ghost use lib.ListN.{length};
+ghost use Rattle.registry.specs.Limits.{mostRecords};
 ghost use Rattle.address.specs.Address.{numbers};
-ghost use Rattle.address.specs.Words.{numberOf};
-ghost use Rattle.blocks.specs.Relations.{select, bottom as «bottom_of»};
-ghost use Rattle.blocks.specs.Scans.{gapPass, gapIn};
-ghost use Rattle.scans.specs.Standing.{blocksIn, Asked};
-ghost use Rattle.listing.specs.Listing.{Collected};
+ghost use Rattle.octets.specs.Words.{numberOf};
+ghost use Rattle.forest.specs.Relations.{select, bottom as «bottom_of»};
+ghost use Rattle.forest.specs.Scans.{gapPass, gapIn};
+ghost use Rattle.scans.specs.Standing.{blocksIn, Searchable};
+ghost use Rattle.output.specs.Listing.{Collected};
 ghost use Rattle.links.specs.Links.{nth, Gathered, Numbered};
 ghost use Rattle.bottom.specs.Testing.{Testable};
-use address::Range;
-use address::Words;
-use address::words_at;
-use address::words_at_most;
+use address::AddressRange;
 use address::words_of;
 use image::Run;
 use links::gather;
 use links::links_of;
-use records::width_of;
+use octets::Words;
+use registry::MOST_RECORDS;
+use registry::PerRecord;
+use registry::width_of;
 use scans::any_inside;
+use words::words_at;
+use words::words_at_most;
 
 fn lesser(x: Words, y: Words) -> Words
     ensures { λ r. ⌜ numberOf r ≡ min (numberOf x) (numberOf y) ⌝ }
@@ -54,21 +57,21 @@ fn next(x: Words) -> Words
 fn children_leave(
     image: &[u8],
     family: u8,
-    starts: &[u32; 4096],
-    links: &[u32; 4096],
+    firsts: &PerRecord,
+    links: &PerRecord,
     n: usize,
     i: usize,
     mut free: Words,
     limit: Words,
 ) -> bool
-    requires { ⌜ Testable (now image) family (now starts) (now links) n i × (numberOf free ≤ numberOf limit) ⌝ }
+    requires { ⌜ Testable (now image) family (now firsts) (now links) n i × (numberOf free ≤ numberOf limit) ⌝ }
     ensures { λ r. ⌜ r ≡ gapPass (nth (blocksIn (now (image .entry)) family) i .range) (numberOf free) (numberOf limit) (blocksIn (now (image .entry)) family) ⌝ }
 {
     let width = width_of(family);
     let end = links[i] as usize;
     let mut j = i + 1;
     while j < end {
-        let child = starts[j] as usize;
+        let child = firsts[j] as usize;
         if !words_at_most(words_at(image, child, width), free) {
             return true;
         }
@@ -86,23 +89,23 @@ fn children_leave(
 fn leaves_gap(
     image: &[u8],
     family: u8,
-    starts: &[u32; 4096],
-    links: &[u32; 4096],
+    firsts: &PerRecord,
+    links: &PerRecord,
     n: usize,
     i: usize,
-    range: Range,
+    range: AddressRange,
 ) -> bool
-    requires { ⌜ Testable (now image) family (now starts) (now links) n i ⌝ }
+    requires { ⌜ Testable (now image) family (now firsts) (now links) n i ⌝ }
     ensures { λ r. ⌜ r ≡ gapIn (blocksIn (now (image .entry)) family) (numbers range) (nth (blocksIn (now (image .entry)) family) i .range) ⌝ }
 {
     let width = width_of(family);
-    let start = starts[i] as usize;
+    let start = firsts[i] as usize;
     let limit = lesser(words_of(range.last), words_at(image, start + width, width));
     let free = greater(words_of(range.first), words_at(image, start, width));
     if !words_at_most(free, limit) {
         return false;
     }
-    children_leave(image, family, starts, links, n, i, free, limit)
+    children_leave(image, family, firsts, links, n, i, free, limit)
 }
 
 // The record numbers of the blocks that are the smallest one holding some address of the range. The first block has the number from.
@@ -110,20 +113,20 @@ fn holders(
     image: &[u8],
     family: u8,
     from: u32,
-    starts: &[u32; 4096],
+    firsts: &PerRecord,
     n: usize,
-    range: Range,
-    hits: &mut [u32; 4096],
+    range: AddressRange,
+    hits: &mut PerRecord,
 ) -> usize
-    requires { ⌜ Gathered (now image) family (now starts) n × Numbered (now image) family from n
-        × (length (now hits) ≡ 4096) ⌝ }
+    requires { ⌜ Gathered (now image) family (now firsts) n × Numbered (now image) family from n
+        × (length (now hits) ≡ mostRecords) ⌝ }
     ensures { λ r. ⌜ Collected (now (hits .exit)) (select (λ b. gapIn (blocksIn (now (image .entry)) family) (numbers range) (b .range)) (blocksIn (now (image .entry)) family)) r ⌝ }
 {
-    let links = links_of(image, family, starts, n);
+    let links = links_of(image, family, firsts, n);
     let mut m: usize = 0;
     let mut i: usize = 0;
     while i < n {
-        if leaves_gap(image, family, starts, &links, n, i, range) {
+        if leaves_gap(image, family, firsts, &links, n, i, range) {
             hits[m] = from + i as u32;
             m += 1;
         }
@@ -135,18 +138,18 @@ fn holders(
 // Bottom: those blocks, where some block is strictly inside the range.
 pub fn bottom(
     image: &[u8],
-    places: &[u32; 4096],
+    starts: &PerRecord,
     blocks: Run,
-    range: Range,
-    hits: &mut [u32; 4096],
+    range: AddressRange,
+    hits: &mut PerRecord,
 ) -> usize
-    requires { ⌜ Asked (now image) (now places) blocks range × (length (now hits) ≡ 4096) ⌝ }
-    ensures { λ r. ⌜ Collected (now (hits .exit)) («bottom_of» (blocksIn (now (image .entry)) (blocks .first)) (numbers range)) r ⌝ }
+    requires { ⌜ Searchable (now image) (now starts) blocks range × (length (now hits) ≡ mostRecords) ⌝ }
+    ensures { λ r. ⌜ Collected (now (hits .exit)) («bottom_of» (blocksIn (now (image .entry)) (blocks .low)) (numbers range)) r ⌝ }
 {
-    if !any_inside(image, places, blocks, range) {
+    if !any_inside(image, starts, blocks, range) {
         return 0;
     }
-    let mut starts = [0u32; 4096];
-    let n = gather(places, blocks, &mut starts);
-    holders(image, blocks.first, blocks.from, &starts, n, range, hits)
+    let mut firsts = [0u32; MOST_RECORDS];
+    let n = gather(starts, blocks, &mut firsts);
+    holders(image, blocks.low, blocks.from, &firsts, n, range, hits)
 }

@@ -7,22 +7,22 @@ use native.Mathlib.Omega.{arith}
 use borrow.Author.Tests.{not-true, leb-true, leb-false}
 use lib.Dec.{leb}
 use lib.ListN.{getD}
-use Rattle.address.specs.Lists.{keep}
-use Rattle.address.specs.Number.{atMost}
-use Rattle.address.proofs.Order.{after-trans, not-after-itself}
-use Rattle.name.specs.Compare.{alike}
-use Rattle.name.specs.declared.Text.{Text}
-use Rattle.name.proofs.Alike.{alike-itself, alike-others}
+use Rattle.octets.specs.Lists.{keep}
+use Rattle.octets.specs.Number.{atMost}
+use Rattle.octets.proofs.Order.{after-trans, not-after-itself}
+use Rattle.texts.specs.Compare.{alike}
+use Rattle.registry.specs.declared.Text.{Text}
+use Rattle.texts.proofs.Alike.{alike-itself, alike-others}
 use Rattle.pattern.specs.Pattern.{matchesForm}
 use Rattle.pattern.specs.declared.Form.the-variants.{Exact}
 use Rattle.records.specs.Record.{Record, sortedAfter, follows}
-use Rattle.records.specs.Place.{bytesOf}
+use Rattle.records.specs.Positions.{bytesOf}
 use Rattle.image.specs.Image.{imageOf}
 use Rattle.image.specs.Part.{recordsOf, contentsOf}
 use Rattle.image.specs.Entries.{contentsSpan}
 use Rattle.image.specs.Index.{Selected}
 use Rattle.image.specs.declared.Run.{Run}
-use Rattle.image.specs.declared.Which.{Which}
+use Rattle.registry.specs.declared.Part.{Part}
 use Rattle.entries.proofs.Halves.{Sorted, by-neighbours, Halved, fewer}
 use Rattle.entries.proofs.Tags.{record-follows}
 use Rattle.search.specs.Search.{numbersFrom, whichOf, fieldOf, isCalled}
@@ -30,23 +30,23 @@ use Rattle.by_name.specs.Seeking.{SortedBy, domains, nameservers, entiti
 use Rattle.search.proofs.Picks.{stands, text-here, foundFrom, turn, passed, before-run, behind-run}
 
 -- the text of record i, where the index says that it stands
-abbrev pub keyAt : List ℕ → List ℕ → Which → ℕ → List ℕ
-keyAt s places which i = bytesOf s (contentsSpan which s (getD places i 0))
+abbrev pub keyAt : List ℕ → List ℕ → Part → ℕ → List ℕ
+keyAt s starts which i = bytesOf s (contentsSpan which s (getD starts i 0))
 
-abbrev pub Before : List ℕ → List ℕ → Which → List ℕ → ℕ → Type 0
-Before s places which wanted i = atMost wanted (keyAt s places which i) ≡ false
+abbrev pub Before : List ℕ → List ℕ → Part → List ℕ → ℕ → Type 0
+Before s starts which wanted i = atMost wanted (keyAt s starts which i) ≡ false
 
-abbrev pub Behind : List ℕ → List ℕ → Which → List ℕ → ℕ → Type 0
-Behind s places which wanted i = atMost (keyAt s places which i) wanted ≡ false
+abbrev pub Behind : List ℕ → List ℕ → Part → List ℕ → ℕ → Type 0
+Behind s starts which wanted i = atMost (keyAt s starts which i) wanted ≡ false
 
 -- The keys of the run rise
 
-one-tag : {first last : ℕ} {text : Text} → SortedBy first last text → first ≡ last
+one-tag : {low high : ℕ} {text : Text} → SortedBy low high text → low ≡ high
 one-tag domains = refl
 one-tag nameservers = refl
 one-tag entities = refl
 
-key-after : {first last : ℕ} {text : Text} → SortedBy first last text → (p r : Record) → p .tag ≡ first → r .tag ≡ first
+key-after : {low high : ℕ} {text : Text} → SortedBy low high text → (p r : Record) → p .tag ≡ low → r .tag ≡ low
     → follows p r ≡ true → atMost (contentsOf (whichOf text) r) (contentsOf (whichOf text) p) ≡ false
 unfolding follows sortedAfter
 key-after domains p r h k e = not-true (atMost (r .name) (p .name)) (rw (h, k) at e)
@@ -54,11 +54,11 @@ key-after nameservers p r h k e = not-true (atMost (r .name) (p .name)) (rw (h, 
 key-after entities p r h k e = not-true (atMost (r .handle) (p .handle)) (rw (h, k) at e)
 
 -- which part of a record the text is
-module _ {s places : List ℕ} {run : Run} (a : Selected s places run) {text : Text} (l : SortedBy (run .first) (run .last) text) (which : Which) (by : which ≡ whichOf text) where
+module _ {s starts : List ℕ} {run : Run} (a : Selected s starts run) {text : Text} (l : SortedBy (run .low) (run .high) text) (which : Part) (by : which ≡ whichOf text) where
   abbrev key : ℕ → List ℕ
-  key i = keyAt s places which i
+  key i = keyAt s starts which i
 
-  tag-is : (i : ℕ) → run .from ≤ i → (h : i < run .until) → stands a i h .r .tag ≡ run .first
+  tag-is : (i : ℕ) → run .from ≤ i → (h : i < run .until) → stands a i h .r .tag ≡ run .low
   tag-is i k h = let t = a .run-of .inside i k h in omega (arith, stands a i h .tag, t .0, t .1, one-tag l)
 
   next-key : (i : ℕ) → run .from ≤ i → i + 1 < run .until → atMost (key (i + 1)) (key i) ≡ false
@@ -69,7 +69,7 @@ module _ {s places : List ℕ} {run : Run} (a : Selected s places run) {text : T
       (rw by (key-after l (x .r) (y .r) (tag-is i h (omega arith)) (tag-is (i + 1) (omega arith) k) (record-follows s (a .count) (a .indexed .sound) i x y)))
 
   module _ (wanted : List ℕ) where
-    pub keys-sorted : Sorted (Before s places which wanted) (Behind s places which wanted) (run .from) (run .until)
+    pub keys-sorted : Sorted (Before s starts which wanted) (Behind s starts which wanted) (run .from) (run .until)
     keys-sorted =
         by-neighbours (λ i h k b. after-trans (key i) (key (i + 1)) wanted (next-key i h k) b) (λ i h k b. after-trans wanted (key i) (key (i + 1)) b (next-key i h k))
 
@@ -78,37 +78,37 @@ module _ {s places : List ℕ} {run : Run} (a : Selected s places run) {text : T
     from i = foundFrom s run which false Exact wanted i
 
     abbrev reading : List ℕ
-    reading = numbersFrom (isCalled (run .first) (run .last) text wanted) 0 (recordsOf (imageOf s))
+    reading = numbersFrom (isCalled (run .low) (run .high) text wanted) 0 (recordsOf (imageOf s))
 
     is-reading : from 0 ≡ reading
     unfolding isCalled fieldOf matchesForm
-    is-reading = ap (λ (x : Which). foundFrom s run x false Exact wanted 0) by
+    is-reading = ap (λ (x : Part). foundFrom s run x false Exact wanted 0) by
 
     step : (i : ℕ) → run .from ≤ i → i < run .until → {v : Bool} → alike false wanted (key i) ≡ v → from i ≡ keep v i (from (i + 1))
     unfolding matchesForm
     step i h k e = turn a which false Exact wanted i h k (sym e)
 
-    before-unlike : (i : ℕ) → Before s places which wanted i → alike false wanted (key i) ≡ false
+    before-unlike : (i : ℕ) → Before s starts which wanted i → alike false wanted (key i) ≡ false
     before-unlike i h = alike-others wanted (key i) (not-after-itself wanted (key i) h)
 
-    behind-unlike : (i : ℕ) → Behind s places which wanted i → alike false wanted (key i) ≡ false
+    behind-unlike : (i : ℕ) → Behind s starts which wanted i → alike false wanted (key i) ≡ false
     behind-unlike i h = alike-others wanted (key i) (λ e. not-after-itself (key i) wanted h (sym e))
 
     unlike : (i j : ℕ) → run .from ≤ i → i ≤ j → j ≤ run .until → ((m : ℕ) → i ≤ m → m < j → alike false wanted (key m) ≡ false) → from i ≡ from j
     unlike i j h k l others = passed a which false Exact wanted i j k (λ m p q. step m (omega arith) (omega arith) (others m p q))
 
     -- every record of the run comes before or behind
-    pub none-found : (low high : ℕ) → Halved (Before s places which wanted) (Behind s places which wanted) (run .from) (run .until) low high → high ≤ low → [] ≡ reading
+    pub none-found : (low high : ℕ) → Halved (Before s starts which wanted) (Behind s starts which wanted) (run .from) (run .until) low high → high ≤ low → [] ≡ reading
     none-found low high w h =
         let f = a .run-of .forward in
         sym (sym (before-run a which false Exact wanted)
-        ∙ unlike (run .from) (run .until) (omega arith) (omega arith) (omega arith) (λ m p q. by-place m p q (leb low m) refl)
+        ∙ unlike (run .from) (run .until) (omega arith) (omega arith) (omega arith) (λ m p q. by-order m p q (leb low m) refl)
         ∙ behind-run a which false Exact wanted)
         ∙ is-reading
       where
-        by-place : (m : ℕ) → run .from ≤ m → m < run .until → (t : Bool) → leb low m ≡ t → alike false wanted (key m) ≡ false
-        by-place m p q true e = behind-unlike m (w .above m (omega (arith, leb-true low m e)) q)
-        by-place m p q false e = before-unlike m (w .below m p (omega (arith, leb-false low m e)))
+        by-order : (m : ℕ) → run .from ≤ m → m < run .until → (t : Bool) → leb low m ≡ t → alike false wanted (key m) ≡ false
+        by-order m p q true e = behind-unlike m (w .above m (omega (arith, leb-true low m e)) q)
+        by-order m p q false e = before-unlike m (w .below m p (omega (arith, leb-false low m e)))
 
     -- the record that is sought is the only one: its neighbours come before and behind it
     module _ (i : ℕ) (h : run .from ≤ i) (k : i < run .until) (e : key i ≡ wanted) where

@@ -2,22 +2,23 @@
 use Prim.Native.Nat.{ℕ, _≤_}
 use mathlib.Core.Path.{_≡_}
 use mathlib.Core.List.{List}
-use Rattle.name.specs.declared.Text.{Text}
-use Rattle.name.specs.declared.Text.the-variants.{Handle, Host}
+use Rattle.registry.specs.Tags.{domain, entity, nameserver}
+use Rattle.registry.specs.declared.Text.{Text}
+use Rattle.registry.specs.declared.Text.the-variants.{Handle, Host}
 use Rattle.image.specs.Image.{imageOf}
 use Rattle.image.specs.Part.{recordsOf}
 use Rattle.image.specs.declared.Run.{Run}
-use Rattle.listing.specs.Listing.{foundNumbers}
+use Rattle.output.specs.Listing.{foundNumbers}
 use Rattle.search.specs.Search.{numbersFrom, isCalled}
 use Rattle.by_name.specs.declared.Sought.{Sought}
 
 -- S4.6: the records with the tags from first to last are sorted by this text.
-pub data SortedBy : (first last : ℕ) → Text → Type 0 where
-  domains : SortedBy 0x13 0x13 Host
-  nameservers : SortedBy 0x14 0x14 Host
-  entities : SortedBy 0x15 0x15 Handle
+pub data SortedBy : (low high : ℕ) → Text → Type 0 where
+  domains : SortedBy domain domain Host
+  nameservers : SortedBy nameserver nameserver Host
+  entities : SortedBy entity entity Handle
 
 -- 13 comparisons always end the search, with the answer of a full reading.
 pub record SoughtIn (image : List ℕ) (run : Run) (text : Text) (wanted : List ℕ) (r : Sought) : Type 0 where
   pub bounded : r .steps ≤ 13
-  pub answer : foundNumbers (r .found) ≡ numbersFrom (isCalled (run .first) (run .last) text wanted) 0 (recordsOf (imageOf image))
+  pub answer : foundNumbers (r .found) ≡ numbersFrom (isCalled (run .low) (run .high) text wanted) 0 (recordsOf (imageOf image))

@@ -2,32 +2,33 @@
 ghost use mathlib.Core.Path.{_≡_};
 ghost use Prim.Native.Nat.{_+_, _<_};
 ghost use lib.ListN.{length};
-ghost use Rattle.address.specs.Order.{compared};
-ghost use Rattle.records.specs.Place.{bytesOf, Inside};
+ghost use Rattle.octets.specs.Order.{compared};
+ghost use Rattle.records.specs.Positions.{bytesOf, Inside};
 ghost use Rattle.image.specs.Image.{imageOf};
 ghost use Rattle.image.specs.Part.{recordsOf};
 ghost use Rattle.image.specs.Entries.{contentsSpan};
 ghost use Rattle.image.specs.Index.{Selected};
-ghost use Rattle.listing.specs.Listing.{Reported};
+ghost use Rattle.output.specs.Listing.{Reported};
 ghost use Rattle.search.specs.Search.{numbersFrom, isCalled};
 ghost use Rattle.by_name.specs.Seeking.{SortedBy, SoughtIn};
-use address::Ordering;
 use image::Run;
-use image::Which;
-use listing::Found;
-use listing::Listed;
-use listing::report_found;
-use name::Text;
+use octets::Ordering;
+use output::Found;
+use output::Listed;
+use output::report_found;
+use registry::Part;
+use registry::PerRecord;
+use registry::Text;
 use search::text_at;
 use search::which_of;
 
 // How the handle or the name of the record at a position sorts beside the text that is wanted. It counts itself.
-fn compare_at(image: &[u8], at: usize, which: Which, wanted: &[u8], steps: &mut u32) -> Ordering
+fn compare_at(image: &[u8], at: usize, which: Part, wanted: &[u8], steps: &mut u32) -> Ordering
     requires { ⌜ Inside (length (now image)) (contentsSpan which (now image) at) × (now steps < 13) ⌝ }
     ensures { λ r. ⌜ (r ≡ compared (bytesOf (now (image .entry)) (contentsSpan which (now (image .entry)) at)) (now (wanted .entry))) × (now (steps .exit) ≡ now (steps .entry) + 1) ⌝ }
 {
     *steps += 1;
-    address::compare(text_at(image, at, which), wanted)
+    words::compare(text_at(image, at, which), wanted)
 }
 
 // What a search by halves found, and how many comparisons it took.
@@ -37,8 +38,8 @@ struct Sought {
 }
 
 // The record of the run whose handle or name is the text, by halves, since the records of the run are sorted by it.
-fn seek(image: &[u8], places: &[u32; 4096], run: Run, text: Text, wanted: &[u8]) -> Sought
-    requires { ⌜ Selected (now image) (now places) run × SortedBy (run .first) (run .last) text ⌝ }
+fn seek(image: &[u8], starts: &PerRecord, run: Run, text: Text, wanted: &[u8]) -> Sought
+    requires { ⌜ Selected (now image) (now starts) run × SortedBy (run .low) (run .high) text ⌝ }
     ensures { λ r. ⌜ SoughtIn (now (image .entry)) run text (now (wanted .entry)) r ⌝ }
 {
     let which = which_of(text);
@@ -47,7 +48,7 @@ fn seek(image: &[u8], places: &[u32; 4096], run: Run, text: Text, wanted: &[u8])
     let mut steps: u32 = 0;
     while low < high {
         let i = entries::middle(low, high);
-        let at = places[i as usize] as usize;
+        let at = starts[i as usize] as usize;
         match compare_at(image, at, which, wanted, &mut steps) {
             Ordering::Less => low = i + 1,
             Ordering::Equal => {
@@ -68,15 +69,15 @@ fn seek(image: &[u8], places: &[u32; 4096], run: Run, text: Text, wanted: &[u8])
 // The record of the run whose handle or name is the text, reported to the list.
 pub fn called(
     image: &[u8],
-    places: &[u32; 4096],
+    starts: &PerRecord,
     run: Run,
     text: Text,
     wanted: &[u8],
     list: &mut [u32],
 ) -> Listed
-    requires { ⌜ Selected (now image) (now places) run × SortedBy (run .first) (run .last) text ⌝ }
-    ensures { λ r. ⌜ Reported (numbersFrom (isCalled (run .first) (run .last) text (now (wanted .entry))) 0 (recordsOf (imageOf (now (image .entry))))) (now (list .entry)) (now (list .exit)) r ⌝ }
+    requires { ⌜ Selected (now image) (now starts) run × SortedBy (run .low) (run .high) text ⌝ }
+    ensures { λ r. ⌜ Reported (numbersFrom (isCalled (run .low) (run .high) text (now (wanted .entry))) 0 (recordsOf (imageOf (now (image .entry))))) (now (list .entry)) (now (list .exit)) r ⌝ }
 {
-    let found = seek(image, places, run, text, wanted).found;
+    let found = seek(image, starts, run, text, wanted).found;
     report_found(found, list)
 }

@@ -7,9 +7,10 @@ use Prim.Native.Nat.{ℕ, zero, suc, _+_}
 use native.Mathlib.Omega.{arith}
 use lib.Dec.{eqb}
 use lib.ListN.{length}
-use Rattle.address.specs.Lists.{keep, filter}
+use Rattle.registry.specs.Tags.{isKnown}
+use Rattle.octets.specs.Lists.{keep, filter}
 use Rattle.fields.specs.Field.{Head, field, short, headOf}
-use Rattle.records.specs.Record.{Record, isKnown, follows}
+use Rattle.records.specs.Record.{Record, follows}
 use Rattle.records.specs.Judge.{Judged, bad, good, judge}
 use Rattle.rows.specs.Entry.{Entry, entry}
 use Rattle.rows.specs.Good.{GoodEntry, AllGood, good-nil, good-cons}

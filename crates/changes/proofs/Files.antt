@@ -7,7 +7,7 @@ use native.Mathlib.Omega.{arith}
 use lib.ListN.{length, length-append}
 use Rattle.fields.specs.Field.{Head, field, short, headOf}
 use Rattle.rows.specs.Entry.{Entry}
-use Rattle.fields.proofs.Starts.{starts}
+use Rattle.fields.proofs.Starts.{starts-field}
 use Rattle.changes.specs.Change.{Changed, done, refusedAt, later, afterApplied, afterHead, applied, changeOf, changesFrom, changesOf}
 
 pub not-done : (offset : ℕ) (es : List Entry) → refusedAt offset ≡ done es → ⊥
@@ -27,7 +27,7 @@ later-done n (refusedAt offset) es e = absurd (not-done _ es e)
 
 -- what follows the first field of a row
 left-over : (s : List ℕ) (tag : ℕ) (contents rest : List ℕ) → headOf s ≡ field tag contents rest → length s ≡ 3 + length contents + length rest
-left-over s tag contents rest e = starts s tag contents rest e .long
+left-over s tag contents rest e = starts-field s tag contents rest e .long
 
 -- the bound on the number of changes does not matter, if it is not below the number of bytes
 bound : (n m : ℕ) (es : List Entry) (s : List ℕ) → length s ≤ n → length s ≤ m → changesFrom n es s ≡ changesFrom m es s
@@ -110,7 +110,7 @@ joined-from (suc n) (suc k) m es fs (b ∷ bs) t e p q =
         → afterHead es (headOf (b ∷ (bs ++ t))) (λ next rest. changesFrom k next rest) ≡ later (suc (length bs)) (changesFrom m fs t)
     by-head short x y onward = absurd (not-done _ fs y)
     by-head (field tag contents rest) x y onward =
-        let w = starts (b ∷ bs) tag contents rest x in
+        let w = starts-field (b ∷ bs) tag contents rest x in
         rw (w .followed t)
         (by-applied (3 + length contents) rest (omega (arith, w .long, length-append bs t, length-append rest t)) (sym (w .long)) onward
         (applied (changeOf tag contents) es) y)

@@ -6,9 +6,10 @@ use Prim.Native.Nat.{ℕ, _<_}
 use borrow.Author.Tests.{eqb-true, eq-eqb, not-false}
 use native.Mathlib.Omega.{arith}
 use lib.Dec.{eqb}
+use Rattle.registry.specs.Tags.{isBlock}
 use Rattle.address.specs.Ranges.{Range, sortsAfter}
-use Rattle.records.specs.Record.{Record, isBlock, rangeOf, keyOf, sortedAfter}
-use Rattle.address.proofs.Order.{at-most-refl, at-most-both}
+use Rattle.records.specs.Record.{Record, rangeOf, keyOf, sortedAfter}
+use Rattle.octets.proofs.Order.{at-most-refl, at-most-both}
 use Rattle.records.proofs.Order.{sorts-cases, sorts-not}
 use Rattle.changes.specs.Change.{sameKey, Agree, SameKeys}
 

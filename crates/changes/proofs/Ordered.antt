@@ -8,7 +8,7 @@ use borrow.Author.Tests.{ltb-false, eqb-true, eqb-false}
 use native.Mathlib.Omega.{arith}
 use lib.Dec.{leb, ltb, eqb}
 use lib.ListN.{length, take, drop}
-use Rattle.address.specs.Lists.{contains, keep, filter}
+use Rattle.octets.specs.Lists.{contains, keep, filter}
 use Rattle.records.specs.Record.{Record, sortedAfter, follows}
 use Rattle.image.specs.Image.{Image, sound, defective, imageOf}
 use Rattle.rows.specs.Entry.{Entry, entriesOf, parsedOf, rowOf}

@@ -8,7 +8,7 @@ use borrow.Author.Tests.{eqb-true, ne-eqb}
 use native.Mathlib.Omega.{arith}
 use lib.Dec.{eqb}
 use lib.ListN.{length, take, drop}
-use Rattle.address.specs.Lists.{keep}
+use Rattle.octets.specs.Lists.{keep}
 use Rattle.records.specs.Record.{Record, sortedAfter, follows}
 use Rattle.rows.specs.Entry.{Entry, parsedOf}
 use Rattle.rows.specs.Ordered.{AllAfter, after-cons, Ordered, ordered-cons}

@@ -7,11 +7,12 @@ use mathlib.Core.Option.{Option, none, some}
 use Prim.Native.Nat.{ℕ, zero, suc, _+_, _*_}
 use lib.Dec.{eqb}
 use lib.ListN.{length}
-use Rattle.address.specs.Lists.{filter, any}
+use Rattle.registry.specs.Tags.{isBlock, isKnown, widthOf, entity}
+use Rattle.octets.specs.Lists.{filter, any}
 use Rattle.address.specs.Ranges.{rangeFrom, wellFormed}
 use Rattle.fields.specs.Field.{Head, field, short, headOf}
-use Rattle.name.specs.Texts.{goodText}
-use Rattle.records.specs.Record.{Record, isBlock, isKnown, widthOf, rangeOf, goodName, keyOf, sortedAfter, follows}
+use Rattle.texts.specs.Texts.{goodText}
+use Rattle.records.specs.Record.{Record, rangeOf, goodName, keyOf, sortedAfter, follows}
 use Rattle.records.specs.Judge.{Judged, bad, good, judge}
 use Rattle.rows.specs.Entry.{Entry, entry}
 
@@ -38,7 +39,7 @@ keyed tag key = record { tag = tag; range = key; handle = key; name = key; statu
 unfoldable pub goodKey : ℕ → List ℕ → Bool
 goodKey tag key =
     cond (isBlock tag) (eqb (length key) (2 * widthOf tag) && wellFormed (rangeFrom (widthOf tag) key))
-    (cond (eqb tag 0x15) (goodText 0x21 key) (goodName tag key))
+    (cond (eqb tag entity) (goodText 0x21 key) (goodName tag key))
 
 -- A change by itself
 

@@ -5,7 +5,7 @@ use mathlib.Core.List.{List, [], _∷_, _++_}
 use Prim.Native.Nat.{ℕ, _≤_}
 use lib.Dec.{leb}
 use lib.ListN.{length, take, drop}
-use Rattle.address.specs.Lists.{contains}
+use Rattle.octets.specs.Lists.{contains}
 use Rattle.records.specs.Record.{Record}
 use Rattle.image.specs.Image.{Image, sound, defective, imageOf}
 use Rattle.rows.specs.Entry.{Entry, entriesOf, parsedOf, rowOf}

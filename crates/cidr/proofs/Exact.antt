@@ -6,7 +6,7 @@ use mathlib.Core.List.{List, [], _∷_, _++_, List·Memᴰ·head, List·Memᴰ·
 use native.Mathlib.Omega.{arith}
 use native.Mathlib.Nat.{le-trans, le-refl, le-add-right}
 use native.Mathlib.Decide.{decLt}
-use Rattle.address.specs.Lists.{_∈_}
+use Rattle.octets.specs.Lists.{_∈_}
 use Rattle.address.specs.Ranges.{Range}
 use Rattle.cidr.specs.Prefixes.{Prefix, prefix}
 use Rattle.cidr.specs.Shortest.{Ascending}

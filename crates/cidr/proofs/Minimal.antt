@@ -8,7 +8,7 @@ use borrow.Author.Tests.{ltb-true, lt-ltb}
 use lib.Dec.{ltb}
 use lib.ListN.{length, length-append}
 use lib.Pow.{pow-pos}
-use Rattle.address.specs.Lists.{_∈_}
+use Rattle.octets.specs.Lists.{_∈_}
 use Rattle.address.specs.Ranges.{Range}
 use Rattle.cidr.specs.Prefixes.{Prefix}
 use Rattle.cidr.proofs.Multiples.{Multiple, half, other-half, across}

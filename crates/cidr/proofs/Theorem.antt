@@ -7,9 +7,9 @@ use native.Mathlib.Omega.{arith}
 use lib.Dec.{T}
 use lib.ListN.{length}
 use lib.Pow.{pow-pos}
-use Rattle.address.specs.Lists.{_∈_, any}
+use Rattle.octets.specs.Lists.{_∈_, any}
 use Rattle.address.specs.Ranges.{Range, single, covers}
-use Rattle.address.proofs.Tests.{any-yes, yes-any, same-test}
+use Rattle.octets.proofs.Tests.{any-yes, yes-any, same-test}
 use Rattle.address.proofs.Geometry.{covers-iff}
 use Rattle.cidr.specs.Prefixes.{Prefix, addresses, halved, prefixesOf}
 use Rattle.cidr.specs.Shortest.{IsPrefix, Exact, PrefixesShortest}

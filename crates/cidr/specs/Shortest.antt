@@ -3,7 +3,7 @@ use Prim.Native.Nat.{ℕ, _+_, _-_, _*_, _^_, _%_, _≤_, _<_}
 use mathlib.Core.Path.{_≡_}
 use mathlib.Core.List.{List, [], _∷_}
 use lib.ListN.{length}
-use Rattle.address.specs.Lists.{_∈_, any}
+use Rattle.octets.specs.Lists.{_∈_, any}
 use Rattle.address.specs.Ranges.{Range, single, covers}
 use Rattle.cidr.specs.Prefixes.{Prefix, from-to, addresses, prefixesOf}
 

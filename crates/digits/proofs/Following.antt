@@ -6,7 +6,7 @@ use native.Mathlib.Omega.{arith}
 use native.Mathlib.Numerals.{add-one}
 use lib.ListN.{length, drop, getD, length-append, drop-of-length-le}
 use lib.Seq.{drop-cons}
-use Rattle.listing.proofs.Writing.{Parted}
+use Rattle.output.proofs.Writing.{Parted}
 use Rattle.numeral.specs.Digits.{numeralText, following, spelled}
 use Rattle.numeral.proofs.Spelled.{following-append}
 

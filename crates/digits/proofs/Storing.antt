@@ -23,7 +23,7 @@ module _ (base : ℕ) (low : 2 ≤ base) (v : ℕ) where
   count-more h = rw (more-digits base low v h) (length-append (numeralText base (v / base)) (digitOf (v % base) ∷ []))
 
   -- there is one digit more than i
-  module _ {whole : List ℕ} (text : List ℕ) (i : ℕ) (room : i < length text) (places : length (numeralText base v) ≡ suc i) (e : numeralText base v ++ drop (suc i) text ≡ whole) where
+  module _ {whole : List ℕ} (text : List ℕ) (i : ℕ) (room : i < length text) (starts : length (numeralText base v) ≡ suc i) (e : numeralText base v ++ drop (suc i) text ≡ whole) where
     pub store-digit : base ≤ v → 1 ≤ i → numeralText base (v / base) ++ drop (suc (i - 1)) (set text i (digitOf (v % base))) ≡ whole
     store-digit h k =
         let same : suc (i - 1) ≡ i = omega arith in
@@ -32,5 +32,5 @@ module _ (base : ℕ) (low : 2 ≤ base) (v : ℕ) where
 
     pub store-first : v < base → set text i (digitOf v) ≡ whole
     store-first h =
-        let z : i ≡ 0 = omega (arith, count-one h, places) in
+        let z : i ≡ 0 = omega (arith, count-one h, starts) in
         ap (λ (j : ℕ). drop j (set text i (digitOf v))) (sym z) ∙ from-set text i (digitOf v) room ∙ rw (one-digit base low v h) at e

@@ -4,7 +4,7 @@ ghost use mathlib.Core.List.{[], _∷_};
 ghost use Prim.Native.Nat.{_≤_, _<_};
 ghost use lib.ListN.{length};
 ghost use Rattle.numeral.specs.Digits.{digitOf, numeralText, decimalText, hexText, following, spelled};
-ghost use Rattle.listing.specs.Writing.{Written};
+ghost use Rattle.output.specs.Writing.{Written};
 ghost use Rattle.digits.specs.Base.{radix};
 
 pub enum Base {

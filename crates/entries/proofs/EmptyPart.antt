@@ -9,21 +9,22 @@ use native.Mathlib.Omega.{arith}
 use lib.Dec.{eqb, leb}
 use lib.ListN.{length, take, drop, drop-of-length-le}
 use lib.Seq.{slice-empty}
-use Rattle.address.specs.Lists.{within, every, any}
-use Rattle.address.specs.Number.{value}
+use Rattle.registry.specs.Tags.{isBlock, widthOf}
+use Rattle.octets.specs.Lists.{within, every, any}
+use Rattle.octets.specs.Number.{value}
 use Rattle.address.specs.Ranges.{wellFormed}
-use Rattle.pieces.specs.Split.{split}
-use Rattle.pieces.proofs.Tests.{and-left, and-right, within-high}
-use Rattle.name.specs.Host.{isLabel, isHostName}
-use Rattle.name.specs.Texts.{goodText, goodHost}
-use Rattle.records.specs.Record.{isBlock, widthOf, rangeOf, goodName, goodTexts, goodContents}
-use Rattle.records.specs.Place.{rangeSpan}
+use Rattle.octets.specs.Split.{split}
+use Rattle.octets.proofs.Connectives.{and-left, and-right, within-high}
+use Rattle.texts.specs.Host.{isLabel, isHostName}
+use Rattle.texts.specs.Texts.{goodText, goodHost}
+use Rattle.records.specs.Record.{rangeOf, goodName, goodTexts, goodContents}
+use Rattle.records.specs.Positions.{rangeSpan}
 use Rattle.image.specs.Image.{imageOf}
 use Rattle.image.specs.Part.{recordsOf, contentsOf, excerptOf, has, EmptyPart}
 use Rattle.image.specs.Entries.{contentsSpan}
 use Rattle.image.specs.Index.{tagOf, Standing}
-use Rattle.image.specs.declared.Which.{Which}
-use Rattle.image.specs.declared.Which.the-variants.{Range, Handle, Name}
+use Rattle.registry.specs.declared.Part.{Part}
+use Rattle.registry.specs.declared.Part.the-variants.{Range, Handle, Name}
 use Rattle.entries.proofs.Standing.{standing, range-length}
 
 empty-text : (low : ℕ) → goodText low [] ≡ true → ⊥
@@ -61,7 +62,7 @@ module _ (s : List ℕ) (n : ℕ) (k : Standing s n) where
   unfolding contentsSpan rangeSpan
   no-range b = sym (k .contents Range) ∙ rw (k .field-here, k .tag, b) (slice-empty 0 s)
 
-  part : (which : Which) → (contentsOf which (k .r) ≡ []) ↔ (has which (k .r) || false ≡ false)
+  part : (which : Part) → (contentsOf which (k .r) ≡ []) ↔ (has which (k .r) || false ≡ false)
   part Range = go (isBlock (k .r .tag)) refl
     where
       go : (v : Bool) → isBlock (k .r .tag) ≡ v → (k .r .range ≡ []) ↔ (v || false ≡ false)

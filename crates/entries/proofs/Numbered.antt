@@ -8,7 +8,7 @@ use native.Mathlib.Nat.{le-refl}
 use lib.ListN.{length, take, drop, getD, length-reverse}
 use lib.Seq.{slice, take-length, take-take, take-at, drop-cons, getD-take, getD-at}
 use Rattle.fields.specs.Field.{Head, field, short, headOf}
-use Rattle.fields.specs.Place.{fieldAt, headAt, FieldInside, behind, passed}
+use Rattle.fields.specs.Positions.{fieldAt, headAt, FieldInside, behind, passed}
 use Rattle.fields.specs.Heads.{head-slice, field-inside}
 use Rattle.fields.specs.declared.Field.{Field}
 use Rattle.fields.specs.declared.Field.the-variants.{Whole, Short}
@@ -17,7 +17,7 @@ use Rattle.records.specs.Judge.{Judged, bad, good, judge, judgeAlone}
 use Rattle.records.proofs.Accepted.{Accepted, alone-good, overlap-good}
 use Rattle.image.specs.Image.{Image, sound, defective, nextOf, afterJudged, afterNext, imageFrom, imageOf}
 use Rattle.image.specs.Part.{recordsOf}
-use Rattle.image.specs.Entries.{placeOf}
+use Rattle.image.specs.Entries.{startOf}
 use Rattle.image.proofs.Walk.{start-length}
 use Rattle.image.proofs.Soundness.{not-sound, opens}
 
@@ -216,7 +216,7 @@ module _ (s : List ℕ) (n : ℕ) (h : n < length (recordsOf (imageOf s))) where
       by-field Short g next = absurd (pass-short i at w (omega arith) g)
       by-field (Whole t a b) g next = next b (pass-next i at w (omega arith) t a b g)
 
-  pub stands-here : Stood s n (placeOf s n)
-  unfolding placeOf
+  pub stands-here : Stood s n (startOf s n)
+  unfolding startOf
   stands-here = let w = passes n 0 4 (omega arith) pass-none in
-      by-field n (placeOf s n) w (le-refl n) (fieldAt s (placeOf s n) (length s)) refl
+      by-field n (startOf s n) w (le-refl n) (fieldAt s (startOf s n) (length s)) refl

@@ -8,17 +8,17 @@ use native.Mathlib.Decide.{decLt}
 use borrow.Author.Tests.{lt-ltb, le-ltb}
 use lib.ListN.{length, drop-of-length-le}
 use lib.Seq.{slice-empty}
-use Rattle.fields.specs.Place.{fieldAt}
+use Rattle.fields.specs.Positions.{fieldAt}
 use Rattle.fields.specs.Heads.{field-inside}
 use Rattle.fields.specs.declared.Field.{Field}
 use Rattle.fields.specs.declared.Field.the-variants.{Whole, Short}
 use Rattle.records.specs.declared.Span.{Span}
 use Rattle.image.specs.Image.{Image, sound, defective, imageOf}
 use Rattle.image.specs.Part.{recordsOf, contentsOfFirst}
-use Rattle.image.specs.Place.{verdictOf}
-use Rattle.image.specs.Entries.{placeOf, contentsIn, contentsSpan, spanOf, PartSpan, SpanIsPart}
+use Rattle.image.specs.Checking.{verdictOf}
+use Rattle.image.specs.Entries.{startOf, contentsIn, contentsSpan, spanOf, PartSpan, SpanIsPart}
 use Rattle.image.specs.Index.{Standing}
-use Rattle.image.specs.declared.Which.{Which}
+use Rattle.registry.specs.declared.Part.{Part}
 use Rattle.image.specs.declared.Verdict.{Verdict}
 use Rattle.image.specs.declared.Verdict.the-variants.{Sound, Defective}
 use Rattle.image.proofs.Soundness.{counted}
@@ -26,7 +26,7 @@ use Rattle.entries.proofs.Standing.{standing-of, contents-in-image}
 
 -- the field at a position, as a reader finds it
 module _ (s : List ℕ) (at : ℕ) (f : Field) (e : f ≡ fieldAt s at (length s)) where
-  pub no-contents : f ≡ Short → (which : Which) → record { start = 0; end = 0 } ≡ contentsSpan which s at
+  pub no-contents : f ≡ Short → (which : Part) → record { start = 0; end = 0 } ≡ contentsSpan which s at
   unfolding contentsSpan
   no-contents k which = rw (← e, k)
 
@@ -34,7 +34,7 @@ module _ (s : List ℕ) (at : ℕ) (f : Field) (e : f ≡ fieldAt s at (length s
     pub end-inside : end ≤ length s
     end-inside = field-inside s at (length s) tag start end (sym e ∙ k) .within
 
-    pub contents-read : (which w : Which) → which ≡ w → {x : Span} → x ≡ contentsIn w s (Whole tag start end) → x ≡ contentsSpan which s at
+    pub contents-read : (which w : Part) → which ≡ w → {x : Span} → x ≡ contentsIn w s (Whole tag start end) → x ≡ contentsSpan which s at
     unfolding contentsSpan
     contents-read which w h z = rw (h, ← e, k) z
 
@@ -42,7 +42,7 @@ pub defective-none : (i : Image) (v : Verdict) (d p : ℕ) → v ≡ verdictOf i
 defective-none (sound records) v d p e f = let z : _≡_ {A = ℕ} 0 1 = cc in absurd (omega arith)
 defective-none (defective a b) v d p e f = refl
 
-module _ (s : List ℕ) (n : ℕ) (which : Which) where
+module _ (s : List ℕ) (n : ℕ) (which : Part) where
   pub span-none : length (recordsOf (imageOf s)) ≤ n → PartSpan s n which (record { start = 0; end = 0 })
   unfolding spanOf
   span-none h = record {
@@ -55,7 +55,7 @@ module _ (s : List ℕ) (n : ℕ) (which : Which) where
     pub span-beyond : count ≤ n → PartSpan s n which (record { start = 0; end = 0 })
     span-beyond h = span-none (omega (arith, counted (imageOf s) count e))
 
-    span-there : n < count → PartSpan s n which (contentsSpan which s (placeOf s n))
+    span-there : n < count → PartSpan s n which (contentsSpan which s (startOf s n))
     unfolding spanOf
     span-there h =
         let k : Standing s n = standing-of s count e n h in
@@ -65,8 +65,8 @@ module _ (s : List ℕ) (n : ℕ) (which : Which) where
           inside = contents-in-image k which;
         }
 
-    pub span-some : n < count → (place : ℕ) → place ≡ placeOf s n → (x : Span) → x ≡ contentsSpan which s place → PartSpan s n which x
-    span-some h place p x z = rw (z, p) (span-there h)
+    pub span-some : n < count → (start : ℕ) → start ≡ startOf s n → (x : Span) → x ≡ contentsSpan which s start → PartSpan s n which x
+    span-some h start p x z = rw (z, p) (span-there h)
 
 pub span-is-part : SpanIsPart
 span-is-part s n which = go (imageOf s) refl (decLt n (length (recordsOf (imageOf s))))

@@ -7,22 +7,23 @@ use native.Mathlib.Omega.{arith}
 use native.Mathlib.Nat.{le-trans}
 use lib.ListN.{length, take, drop, getD}
 use lib.Seq.{slice, length-slice}
+use Rattle.registry.specs.Tags.{isBlock, widthOf}
 use Rattle.address.specs.Address.{numbers, rangeAt, number-at}
 use Rattle.address.specs.Ranges.{rangeFrom}
 use Rattle.fields.specs.Heads.{field-tag, field-inside}
 use Rattle.fields.specs.declared.Field.the-variants.{Whole}
 use Rattle.fields.specs.Slices.{take-slice, drop-slice, part-slice}
-use Rattle.records.specs.Record.{Record, isBlock, widthOf}
-use Rattle.records.specs.Place.{bytesOf, Inside}
+use Rattle.records.specs.Record.{Record}
+use Rattle.records.specs.Positions.{bytesOf, Inside}
 use Rattle.records.proofs.Shapes.{a-block}
 use Rattle.records.proofs.Laid.{Laid, laid}
 use Rattle.image.specs.Image.{imageOf}
 use Rattle.image.specs.Part.{recordsOf, contentsOf}
-use Rattle.image.specs.Place.{verdictOf}
-use Rattle.image.specs.Entries.{placeOf, contentsIn, contentsSpan}
+use Rattle.image.specs.Checking.{verdictOf}
+use Rattle.image.specs.Entries.{startOf, contentsIn, contentsSpan}
 use Rattle.image.specs.Index.{tagOf, Standing, Indexed}
-use Rattle.image.specs.declared.Which.{Which}
-use Rattle.image.specs.declared.Which.the-variants.{Range, Handle, Name}
+use Rattle.registry.specs.declared.Part.{Part}
+use Rattle.registry.specs.declared.Part.the-variants.{Range, Handle, Name}
 use Rattle.image.specs.declared.Verdict.the-variants.{Sound}
 use Rattle.image.proofs.Soundness.{counted}
 use Rattle.entries.proofs.Numbered.{stands-here}
@@ -38,12 +39,12 @@ range-read s at w =
 
 -- the parts of a record that lies in a field
 module _ {s : List ℕ} {tag start end : ℕ} {r : Record} (l : Laid s tag start end r) where
-  contents-laid : (which : Which) → bytesOf s (contentsIn which s (Whole tag start end)) ≡ contentsOf which r
+  contents-laid : (which : Part) → bytesOf s (contentsIn which s (Whole tag start end)) ≡ contentsOf which r
   contents-laid Range = l .range-span
   contents-laid Handle = l .handle
   contents-laid Name = l .name
 
-  inside-laid : (which : Which) → Inside end (contentsIn which s (Whole tag start end))
+  inside-laid : (which : Part) → Inside end (contentsIn which s (Whole tag start end))
   inside-laid Range = l .range-span-inside
   inside-laid Handle = l .handle-inside
   inside-laid Name = l .name-inside
@@ -53,9 +54,9 @@ unfolding tagOf contentsSpan
 standing s i h =
     let x = stands-here s i h in
     let l = laid s (x .tag) (x .start) (x .end) (x .r) (x .inside .forward) (x .inside .within) (x .accepted .parsed) in
-    let u : x .tag ≡ getD s (placeOf s i) 0 = field-tag s (placeOf s i) (length s) (x .tag) (x .start) (x .end) (x .field-here) in
-    let v : x .start ≡ placeOf s i + 3 = sym (x .inside .after) in
-    let w : placeOf s i + 3 + 3 ≡ placeOf s i + 6 = omega arith in
+    let u : x .tag ≡ getD s (startOf s i) 0 = field-tag s (startOf s i) (length s) (x .tag) (x .start) (x .end) (x .field-here) in
+    let v : x .start ≡ startOf s i + 3 = sym (x .inside .after) in
+    let w : startOf s i + 3 + 3 ≡ startOf s i + 6 = omega arith in
     let block : x .tag ≤ 18 → isBlock (x .tag) ≡ true = a-block (x .tag) (x .accepted .low) in
     record {
       r = x .r;
@@ -81,21 +82,21 @@ standing-of s count v i h = standing s i (omega (arith, counted (imageOf s) coun
 -- the range of a block has two addresses or numbers
 pub range-length : {s : List ℕ} {i : ℕ} (x : Standing s i) → tagOf s i ≤ 18 → length (x .r .range) ≡ 2 * widthOf (tagOf s i)
 range-length {s} {i} x h =
-    let from = placeOf s i + 6 in
+    let from = startOf s i + 6 in
     ap length (sym (x .range h)) ∙ length-slice from (from + 2 * widthOf (tagOf s i)) s (x .range-inside h) ∙ omega arith
 
 -- a part lies in the record, and so in the image
-pub contents-in-image : {s : List ℕ} {i : ℕ} → Standing s i → (which : Which) → Inside (length s) (contentsSpan which s (placeOf s i))
+pub contents-in-image : {s : List ℕ} {i : ℕ} → Standing s i → (which : Part) → Inside (length s) (contentsSpan which s (startOf s i))
 contents-in-image {s} {i} x which =
-    let k = field-inside s (placeOf s i) (length s) _ _ _ (x .field-here) in
+    let k = field-inside s (startOf s i) (length s) _ _ _ (x .field-here) in
     let l = x .contents-inside which in
     record { forward = l .forward; within = le-trans (l .within) (k .within) }
 
--- by the index: the place noted of a record holds its tag
-module _ (s places : List ℕ) (count : ℕ) (x : Indexed s count places) where
-  pub tag-here : (i : ℕ) → i < count → getD s (getD places i 0) 0 ≡ tagOf s i
+-- by the index: the start noted of a record holds its tag
+module _ (s starts : List ℕ) (count : ℕ) (x : Indexed s count starts) where
+  pub tag-here : (i : ℕ) → i < count → getD s (getD starts i 0) 0 ≡ tagOf s i
   unfolding tagOf
-  tag-here i h = rw (x .place i h)
+  tag-here i h = rw (x .start i h)
 
-  pub place-inside : (i : ℕ) → i < count → getD places i 0 + 3 ≤ length s
-  place-inside i h = rw (x .place i h) (standing-of s count (x .sound) i h .within)
+  pub start-inside : (i : ℕ) → i < count → getD starts i 0 + 3 ≤ length s
+  start-inside i h = rw (x .start i h) (standing-of s count (x .sound) i h .within)

@@ -13,7 +13,7 @@ use Rattle.records.specs.Judge.{inOrder}
 use Rattle.records.proofs.Accepted.{follows-after}
 use Rattle.image.specs.Image.{imageOf}
 use Rattle.image.specs.Part.{recordsOf}
-use Rattle.image.specs.Place.{verdictOf}
+use Rattle.image.specs.Checking.{verdictOf}
 use Rattle.image.specs.Index.{tagOf, Standing, FirstFrom, RunOf}
 use Rattle.image.specs.declared.Verdict.the-variants.{Sound}
 use Rattle.image.proofs.Sound.{Later, done, next, records-later}
@@ -64,9 +64,9 @@ first-found w h =
     record { few = omega (arith, w .ends, w .forward); below = λ i k. w .below i (omega arith) k; above = λ i k l. w .above i (omega (arith, h, k)) l }
 
 -- two such searches give a run
-pub run-between : (s : List ℕ) (count first last from until : ℕ) → first ≤ last → FirstFrom s count first from → FirstFrom s count (last + 1) until
-    → RunOf s count (record { first = first; last = last; from = from; until = until })
-run-between s count first last from until h a b = record {
+pub run-between : (s : List ℕ) (count low high from until : ℕ) → low ≤ high → FirstFrom s count low from → FirstFrom s count (high + 1) until
+    → RunOf s count (record { low = low; high = high; from = from; until = until })
+run-between s count low high from until h a b = record {
   forward = by-order (leb from until) refl;
   ends = b .few;
   before = a .below;

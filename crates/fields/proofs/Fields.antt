@@ -8,7 +8,7 @@ use borrow.Author.Tests.{lt-ltb, le-ltb, ltb-false, leb-true, le-leb, eq-eqb, eq
 use lib.Dec.{leb, ltb, eqb}
 use lib.ListN.{length, getD, take}
 use lib.Seq.{getD-take, length-take-le}
-use Rattle.fields.specs.Place.{lengthAt, fieldAt, endBy, endBetween, behind, passed, fieldAfter}
+use Rattle.fields.specs.Positions.{lengthAt, fieldAt, endBy, endBetween, behind, passed, fieldAfter}
 use Rattle.fields.specs.declared.Field.{Field}
 use Rattle.fields.specs.declared.Field.the-variants.{Whole, Short}
 use Rattle.fields.specs.declared.End.the-variants.{At, Nothing}

@@ -52,12 +52,12 @@ module _ (t h l : ℕ) (bs : List ℕ) where
               );
         }
 
-pub starts : (s : List ℕ) (tag : ℕ) (contents rest : List ℕ) → headOf s ≡ field tag contents rest → Starts s tag contents rest
+pub starts-field : (s : List ℕ) (tag : ℕ) (contents rest : List ℕ) → headOf s ≡ field tag contents rest → Starts s tag contents rest
 unfolding headOf
-starts [] tag contents rest e = absurd (no-field tag contents rest e)
-starts (t ∷ []) tag contents rest e = absurd (no-field tag contents rest e)
-starts (t ∷ h ∷ []) tag contents rest e = absurd (no-field tag contents rest e)
-starts (t ∷ h ∷ l ∷ bs) tag contents rest e = by-room (leb (h * 256 + l) (length bs)) refl e
+starts-field [] tag contents rest e = absurd (no-field tag contents rest e)
+starts-field (t ∷ []) tag contents rest e = absurd (no-field tag contents rest e)
+starts-field (t ∷ h ∷ []) tag contents rest e = absurd (no-field tag contents rest e)
+starts-field (t ∷ h ∷ l ∷ bs) tag contents rest e = by-room (leb (h * 256 + l) (length bs)) refl e
   where
     by-room : (v : Bool) → leb (h * 256 + l) (length bs) ≡ v
         → cond v (field t (take (h * 256 + l) bs) (drop (h * 256 + l) bs)) short ≡ field tag contents rest → Starts (t ∷ h ∷ l ∷ bs) tag contents rest

@@ -1,5 +1,5 @@
 pub mod Field
-pub mod Place
+pub mod Positions
 pub mod Slices
 pub mod Heads
 pub mod Computing

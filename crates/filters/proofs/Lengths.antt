@@ -4,7 +4,7 @@ use mathlib.Core.Path.{_≡_}
 use mathlib.Core.List.{List, [], _∷_, _++_}
 use native.Mathlib.Omega.{arith}
 use lib.ListN.{length, length-append}
-use Rattle.address.specs.Positions.{Wide}
+use Rattle.octets.specs.Positions.{Wide}
 use Rattle.numeral.specs.Digits.{decimalText}
 use Rattle.numeral.proofs.Digits.{text-few}
 use Rattle.cidr.specs.Prefixes.{Prefix}

@@ -9,13 +9,13 @@ use native.Mathlib.Nat.{mul-le-mul-right}
 use borrow.Author.Tests.{le-ltb, lt-ltb, eqb-true}
 use lib.Dec.{eqb, ltb}
 use lib.ListN.{length, drop, length-append}
-use Rattle.address.specs.Number.{Bytes}
-use Rattle.address.specs.Positions.{Wide}
+use Rattle.octets.specs.Number.{Bytes}
+use Rattle.octets.specs.Positions.{Wide}
 use Rattle.address.specs.Ranges.{rangeFrom, wellFormed}
-use Rattle.listing.specs.Writing.{Written}
-use Rattle.listing.proofs.Writing.{written-nothing}
+use Rattle.output.specs.Writing.{Written}
+use Rattle.output.proofs.Writing.{written-nothing}
 use Rattle.prefixes.specs.Call.{IpRange, ipRange, ipRangeOf, prefixesIn, entriesIn, prefixedOf, bufferAfter}
-use Rattle.listing.specs.declared.Counted.{Counted}
+use Rattle.output.specs.declared.Counted.{Counted}
 use Rattle.prefixes.proofs.Answers.{answers-shortest}
 use Rattle.prefix_bytes.proofs.Widths.{by-width, length-entries}
 use Rattle.layouts.specs.declared.Format.{Format}

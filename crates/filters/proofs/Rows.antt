@@ -12,7 +12,7 @@ use Rattle.layouts.specs.Layout.{Layout, endOf}
 use Rattle.filters.specs.Filter.{prefixText, rowsOf}
 use Rattle.layouts.specs.Styles.{layoutAt}
 use Rattle.filters.specs.Rows.{rowText, entryRows}
-use Rattle.listing.proofs.Writing.{Parted}
+use Rattle.output.proofs.Writing.{Parted}
 
 first-row : (style : ℕ) (before : List ℕ) (width n : ℕ) (s : List ℕ)
     → entryRows style before width (suc n) s ≡ rowText style before (take width s) (getD s width 0) n ++ entryRows style before width n (drop (width + 1) s)

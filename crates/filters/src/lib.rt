@@ -2,8 +2,8 @@
 ghost use mathlib.Core.List.{[]};
 ghost use Prim.Native.Nat.{_+_, _*_, _≤_, _<_};
 ghost use lib.ListN.{length};
-ghost use Rattle.address.specs.Positions.{Wide};
-ghost use Rattle.listing.specs.Writing.{Written};
+ghost use Rattle.octets.specs.Positions.{Wide};
+ghost use Rattle.output.specs.Writing.{Written};
 ghost use Rattle.layouts.specs.Styles.{layoutAt};
 ghost use Rattle.filters.specs.Filter.{textIn};
 ghost use Rattle.filters.specs.Rows.{slashed, rowText, entryRows, entriesText};
@@ -16,7 +16,7 @@ use layouts::put_fixed;
 use layouts::put_head;
 use layouts::put_name;
 use layouts::style_of;
-use listing::put_bytes;
+use output::put_bytes;
 
 // Bytes that every filter fits into.
 pub const ROOM: usize = 38973;

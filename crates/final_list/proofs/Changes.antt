@@ -22,9 +22,9 @@ use Rattle.applying.specs.declared.Applied.the-variants.{Done, RefusedAt}
 use Rattle.final_list.specs.Final.{changedIn, ChangedTo}
 
 -- the index of a sound image holds its records
-module _ (image changes places index : List ℕ) (count : ℕ) (x : Indexed image count places) (e : take count index ≡ take count places) where
+module _ (image changes starts index : List ℕ) (count : ℕ) (x : Indexed image count starts) (e : take count index ≡ take count starts) where
   before-changes : entriesAt image changes (take count index) ≡ entriesOf (recordsOf (imageOf image)) (drop 4 image)
-  before-changes = ap (entriesAt image changes) e ∙ index-entries image places count x changes
+  before-changes = ap (entriesAt image changes) e ∙ index-entries image starts count x changes
 
   pub index-held : Held image changes (take count index)
   index-held =

@@ -1,4 +1,4 @@
-// The final list of a change file by the index of its places; a record of it by its number, for the program.
+// The final list of a change file by the index of its starts; a record of it by its number, for the program.
 ghost use mathlib.Core.Path.{_≡_};
 ghost use lib.ListN.{length};
 ghost use Rattle.image.specs.Index.{Indexed};
@@ -7,40 +7,42 @@ use applying::Applied;
 use applying::apply;
 use image::Verdict;
 use image::index;
-use merged::note_places;
+use merged::note_starts;
 use merged::record_at;
+use registry::MOST_RECORDS;
+use registry::PerRecord;
 
 // The changes applied to a sound image, whose index is handed in. The index of the records afterwards is noted.
 pub fn changed<'a>(
     image: &'a [u8],
     changes: &'a [u8],
-    places: &mut [u32; 4096],
+    starts: &mut PerRecord,
     count: usize,
     index: &mut [u32; 9600],
 ) -> Applied
-    requires { ⌜ Indexed (now image) count (now places) × (length (now index) ≡ 9600) ⌝ }
+    requires { ⌜ Indexed (now image) count (now starts) × (length (now index) ≡ 9600) ⌝ }
     ensures { λ r. ⌜ ChangedTo (now (image .entry)) (now (changes .entry)) (now (index .exit)) r × (length (now (index .exit)) ≡ 9600) ⌝ }
 {
     if 65536 < changes.len() {
         return Applied::RefusedAt(0);
     }
-    note_places(places, count, index);
-    apply(image, changes, index, count, places)
+    note_starts(starts, count, index);
+    apply(image, changes, index, count, starts)
 }
 
 // A record of the final list by its number: its bytes, none where there is no such record. The image is sound, and its index is handed in.
 fn record_after<'a>(
     image: &'a [u8],
     changes: &'a [u8],
-    places: &mut [u32; 4096],
+    starts: &mut PerRecord,
     count: usize,
     number: usize,
 ) -> &'a [u8]
-    requires { ⌜ Indexed (now image) count (now places) ⌝ }
+    requires { ⌜ Indexed (now image) count (now starts) ⌝ }
     ensures { λ r. ⌜ now r ≡ finalRecord (now (image .entry)) (now (changes .entry)) number ⌝ }
 {
     let mut index = [0u32; 9600];
-    match changed(image, changes, places, count, &mut index) {
+    match changed(image, changes, starts, count, &mut index) {
         Applied::RefusedAt(_) => &image[0..0],
         Applied::Done(n) => {
             if n <= number {
@@ -55,9 +57,9 @@ fn record_after<'a>(
 pub fn final_record<'a>(image: &'a [u8], changes: &'a [u8], number: usize) -> &'a [u8]
     ensures { λ r. ⌜ now r ≡ finalRecord (now (image .entry)) (now (changes .entry)) number ⌝ }
 {
-    let mut places = [0u32; 4096];
-    match index(image, &mut places) {
+    let mut starts = [0u32; MOST_RECORDS];
+    match index(image, &mut starts) {
         Verdict::Defective(_, _) => &image[0..0],
-        Verdict::Sound(count) => record_after(image, changes, &mut places, count as usize, number),
+        Verdict::Sound(count) => record_after(image, changes, &mut starts, count as usize, number),
     }
 }

@@ -12,7 +12,7 @@ use lib.Seq.{drop-cons, getD-take}
 use Rattle.records.specs.Record.{Record}
 use Rattle.image.specs.Image.{sound, startsRight, imageOf}
 use Rattle.image.specs.Part.{recordsOf}
-use Rattle.image.specs.Place.{verdictOf}
+use Rattle.image.specs.Checking.{verdictOf}
 use Rattle.image.specs.declared.Verdict.{Verdict}
 use Rattle.image.specs.declared.Verdict.the-variants.{Sound, Defective}
 use Rattle.image.proofs.Soundness.{is-sound, is-defective}
@@ -21,8 +21,8 @@ use Rattle.rows.proofs.Images.{length-of}
 use Rattle.merged.specs.Held.{bytesAt, entriesAt}
 use Rattle.changes.specs.Change.{Changed, done, refusedAt, changesOf}
 use Rattle.changes.specs.Fold.{badImage, badChange, noRoom, fits, finished, afterChanges, foldOf, afterImage}
-use Rattle.listing.specs.Writing.{Written}
-use Rattle.listing.proofs.Writing.{Parted, written-over}
+use Rattle.output.specs.Writing.{Written}
+use Rattle.output.proofs.Writing.{Parted, written-over}
 use Rattle.final_list.specs.Final.{changedIn}
 use Rattle.fold.specs.Call.{foldedOf, counting, Gives}
 use Rattle.fold.specs.declared.Folded.{Folded}

@@ -4,9 +4,10 @@ ghost use mathlib.Core.Bool.{true};
 ghost use mathlib.Core.List.{_++_};
 ghost use Prim.Native.Nat.{_+_, _≤_};
 ghost use lib.ListN.{length, take};
+ghost use Rattle.registry.specs.Limits.{mostImage};
 ghost use Rattle.image.specs.Image.{startsRight};
 ghost use Rattle.image.specs.Index.{Indexed};
-ghost use Rattle.listing.specs.Writing.{Written};
+ghost use Rattle.output.specs.Writing.{Written};
 ghost use Rattle.rows.specs.Entry.{rowOf};
 ghost use Rattle.changes.specs.Fold.{badImage, badChange, foldOf};
 ghost use Rattle.merged.specs.Held.{entriesAt, Held};
@@ -15,10 +16,12 @@ use applying::Applied;
 use final_list::changed;
 use image::Verdict;
 use image::index;
-use listing::put_bytes;
 use merged::record_at;
 use merged::size_of;
+use output::put_bytes;
 use overlaps::final_verdict;
+use registry::MOST_RECORDS;
+use registry::PerRecord;
 
 // The records one after another.
 fn put_records<'a>(
@@ -93,7 +96,7 @@ fn finish<'a>(
     out: &mut [u8],
 ) -> Folded
     requires { ⌜ (length (now index) ≡ 9600) × (n ≤ 9600) × Held (now image) (now changes) (take n (now index)) × (startsRight (now image) ≡ true)
-        × (length (now image) ≤ 262144) × (length (now changes) ≤ 65536) ⌝ }
+        × (length (now image) ≤ mostImage) × (length (now changes) ≤ 65536) ⌝ }
     ensures { λ r. ⌜ Finished (take 4 (now (image .entry)) ++ rowOf (entriesAt (now (image .entry)) (now (changes .entry)) (take n (now (index .entry)))))
         (now (out .entry)) (now (out .exit)) r ⌝ }
 {
@@ -114,15 +117,15 @@ fn finish<'a>(
 fn fold_sound<'a>(
     image: &'a [u8],
     changes: &'a [u8],
-    places: &mut [u32; 4096],
+    starts: &mut PerRecord,
     count: usize,
     out: &mut [u8],
 ) -> Folded
-    requires { ⌜ Indexed (now image) count (now places) ⌝ }
+    requires { ⌜ Indexed (now image) count (now starts) ⌝ }
     ensures { λ r. ⌜ Gives (foldOf (now (image .entry)) (now (changes .entry)) (length (now (out .entry)))) (now (out .entry)) (now (out .exit)) r ⌝ }
 {
     let mut index = [0u32; 9600];
-    match changed(image, changes, places, count, &mut index) {
+    match changed(image, changes, starts, count, &mut index) {
         Applied::RefusedAt(offset) => bad_change(offset as u32),
         Applied::Done(n) => finish(image, changes, &index, n, out),
     }
@@ -132,9 +135,9 @@ pub fn fold<'a>(image: &'a [u8], changes: &'a [u8], out: &mut [u8]) -> Folded
     ensures { λ r. ⌜ r ≡ foldedOf (foldOf (now (image .entry)) (now (changes .entry)) (length (now (out .entry)))) ⌝ }
     ensures { λ r. ⌜ now (out .exit) ≡ outAfter (foldOf (now (image .entry)) (now (changes .entry)) (length (now (out .entry)))) (now (out .entry)) ⌝ }
 {
-    let mut places = [0u32; 4096];
-    match index(image, &mut places) {
+    let mut starts = [0u32; MOST_RECORDS];
+    match index(image, &mut starts) {
         Verdict::Defective(defect, place) => bad_image(2, defect, place),
-        Verdict::Sound(count) => fold_sound(image, changes, &mut places, count as usize, out),
+        Verdict::Sound(count) => fold_sound(image, changes, &mut starts, count as usize, out),
     }
 }

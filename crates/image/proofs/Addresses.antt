@@ -5,10 +5,10 @@ use Prim.Native.Nat.{ℕ, _≤_, _<_}
 use borrow.Author.Tests.{lt-ltb, le-ltb, leb-true, leb-false, eq-eqb, ne-eqb}
 use native.Mathlib.Omega.{arith}
 use lib.Dec.{leb, eqb}
+use Rattle.registry.specs.Tags.{isBlock, widthOf}
 use Rattle.address.specs.Ranges.{Range, sortsAfter}
-use Rattle.address.specs.Positions.{Wide}
+use Rattle.octets.specs.Positions.{Wide}
 use Rattle.address.proofs.Covering.{not-leb}
-use Rattle.records.specs.Record.{isBlock, widthOf}
 
 pub low-family : (family : ℕ) → isBlock family ≡ true → family ≤ 18
 low-family family e = go (leb 0x10 family) e

@@ -10,8 +10,9 @@ use native.Mathlib.Numerals.{add-one}
 use lib.Dec.{leb, eqb}
 use lib.ListN.{length, getD, set}
 use lib.Seq.{getD-set-same, getD-set-other}
+use Rattle.registry.specs.Tags.{isBlock}
 use Rattle.address.specs.Ranges.{Range}
-use Rattle.records.specs.Record.{Record, isBlock, rangeOf, firstOf, lastOf}
+use Rattle.records.specs.Record.{Record, rangeOf, firstOf, lastOf}
 use Rattle.records.specs.Judge.{crossesAny}
 use Rattle.records.proofs.Shapes.{a-block, no-block}
 use Rattle.records.proofs.Accepted.{After}

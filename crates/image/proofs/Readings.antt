@@ -9,7 +9,7 @@ use lib.Dec.{eqb}
 use lib.ListN.{length, getD}
 use lib.Seq.{slice}
 use Rattle.fields.specs.Field.{field, short, headOf}
-use Rattle.fields.specs.Place.{fieldAt, FieldInside}
+use Rattle.fields.specs.Positions.{fieldAt, FieldInside}
 use Rattle.fields.specs.Heads.{head-slice, field-inside}
 use Rattle.fields.specs.declared.Field.{Field}
 use Rattle.fields.specs.declared.Field.the-variants.{Whole, Short}
@@ -17,7 +17,7 @@ use Rattle.records.specs.Layout.{layoutOf, Judging}
 use Rattle.records.specs.declared.Judgement.{Judgement}
 use Rattle.records.specs.declared.Judgement.the-variants.{Good, Bad}
 use Rattle.image.specs.Image.{startsRight}
-use Rattle.image.specs.Place.{ReadAt}
+use Rattle.image.specs.Checking.{ReadAt}
 use Rattle.image.specs.declared.Reading.the-variants.{Taken, Refused}
 
 module _ (s : List ℕ) (at : ℕ) (q : at ≤ length s) (f : Field) (e : f ≡ fieldAt s at (length s)) where

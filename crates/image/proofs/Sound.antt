@@ -10,7 +10,7 @@ use Rattle.fields.specs.Field.{Head, field, short, headOf}
 use Rattle.records.specs.Record.{Record, goodContents}
 use Rattle.records.specs.Judge.{Judged, bad, good, inOrder, crossesAny, judgeAlone, judge}
 use Rattle.records.proofs.Accepted.{alone-good, overlap-good}
-use Rattle.image.specs.Image.{Next, refused, taken, afterJudged, nextOf, afterNext, sound, imageFrom, imageOf}
+use Rattle.image.specs.Image.{Next, stopped, taken, afterJudged, nextOf, afterNext, sound, imageFrom, imageOf}
 use Rattle.image.proofs.Soundness.{opens}
 
 -- a record without defects 5, 6 and 7 after the earlier ones, the latest first
@@ -54,7 +54,7 @@ rest-of (suc n) earlier (b ∷ bs) records e =
         → afterNext earlier x (λ r rest. imageFrom n (r ∷ earlier) rest) ≡ sound records
         → ((r : Record) (rest : List ℕ) → imageFrom n (r ∷ earlier) rest ≡ sound records → Rest (r ∷ earlier) records)
         → Rest earlier records
-    by-next (refused d) p k onward = absurd (let z : _≡_ {A = ℕ} 0 1 = cc in omega arith)
+    by-next (stopped d) p k onward = absurd (let z : _≡_ {A = ℕ} 0 1 = cc in omega arith)
     by-next (taken r rest) p k onward =
         let s = onward r rest k in
         (r ∷ s .0, next (of-head earlier (headOf (b ∷ bs)) r rest p) (s .1), s .2)

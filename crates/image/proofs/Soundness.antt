@@ -9,9 +9,9 @@ use lib.Dec.{leb}
 use lib.ListN.{length, drop, length-reverse}
 use Rattle.fields.specs.Field.{headOf}
 use Rattle.records.specs.Record.{Record}
-use Rattle.image.specs.Image.{Image, sound, defective, Next, refused, taken, nextOf, afterNext, imageFrom, startsRight, imageOf}
+use Rattle.image.specs.Image.{Image, sound, defective, Next, stopped, taken, nextOf, afterNext, imageFrom, startsRight, imageOf}
 use Rattle.image.specs.Part.{recordsOf}
-use Rattle.image.specs.Place.{verdictOf}
+use Rattle.image.specs.Checking.{verdictOf}
 use Rattle.image.specs.declared.Verdict.the-variants.{Sound, Defective}
 
 pub not-sound : (d p : ℕ) (records : List Record) → defective d p ≡ sound records → ⊥
@@ -42,7 +42,7 @@ few-from (suc n) earlier (b ∷ l) records e = by-next (nextOf earlier (headOf (
     by-next : (x : Next) → afterNext earlier x (λ r rest. imageFrom n (r ∷ earlier) rest) ≡ sound records
         → ((r : Record) (rest : List ℕ) → imageFrom n (r ∷ earlier) rest ≡ sound records → length records ≤ n + suc (length earlier))
         → length records ≤ suc n + length earlier
-    by-next (refused d) k onward = absurd (not-sound _ _ records k)
+    by-next (stopped d) k onward = absurd (not-sound _ _ records k)
     by-next (taken r rest) k onward = omega (arith, onward r rest k)
 
 -- the limit of bytes, the start, and what follows it

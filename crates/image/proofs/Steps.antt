@@ -7,11 +7,12 @@ use borrow.Author.Tests.{lt-ltb, le-ltb, eq-eqb, ne-eqb, eqb-true}
 use native.Mathlib.Omega.{arith}
 use lib.Dec.{ltb, eqb}
 use lib.ListN.{length}
-use Rattle.address.specs.Number.{atMost}
+use Rattle.registry.specs.Tags.{isBlock, widthOf}
+use Rattle.octets.specs.Number.{atMost}
 use Rattle.address.specs.Ranges.{Range, sortsAfter}
 use Rattle.address.specs.Positions.{rangeIn}
-use Rattle.pieces.proofs.Tests.{or-false}
-use Rattle.records.specs.Record.{Record, isBlock, widthOf, rangeOf, keyOf, sortedAfter, follows}
+use Rattle.octets.proofs.Connectives.{or-false}
+use Rattle.records.specs.Record.{Record, rangeOf, keyOf, sortedAfter, follows}
 use Rattle.records.specs.Judge.{inOrder}
 use Rattle.records.specs.Layout.{recordOn, LaidOut}
 use Rattle.records.specs.declared.Layout.{Layout}

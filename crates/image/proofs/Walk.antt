@@ -9,17 +9,18 @@ use native.Mathlib.Omega.{arith}
 use native.Mathlib.Nat.{le-refl}
 use lib.ListN.{length, take, drop, set, length-reverse, length-set}
 use lib.Seq.{slice, length-slice, take-length, slice-empty, getD-set-same, getD-set-other}
+use Rattle.registry.specs.Tags.{widthOf}
 use Rattle.address.specs.Ranges.{Range}
 use Rattle.fields.specs.Field.{headOf}
-use Rattle.fields.specs.Place.{fieldAt, FieldInside, behind}
+use Rattle.fields.specs.Positions.{fieldAt, FieldInside, behind}
 use Rattle.fields.specs.Heads.{field-inside}
-use Rattle.records.specs.Record.{Record, widthOf, firstOf}
+use Rattle.records.specs.Record.{Record, firstOf}
 use Rattle.records.specs.Judge.{bad, good, inOrder, crossesAny}
 use Rattle.records.specs.Layout.{layoutOf, recordOn, LaidOut}
 use Rattle.records.specs.declared.Layout.{Layout}
 use Rattle.records.proofs.Accepted.{first-last, After, follows-after}
-use Rattle.image.specs.Image.{Image, sound, defective, refused, taken, afterJudged, nextOf, afterNext, imageFrom, startsRight}
-use Rattle.image.specs.Place.{TakenAt, ReadAt, verdictOf}
+use Rattle.image.specs.Image.{Image, sound, defective, stopped, taken, afterJudged, nextOf, afterNext, imageFrom, startsRight}
+use Rattle.image.specs.Checking.{TakenAt, ReadAt, verdictOf}
 use Rattle.image.specs.Nest.{nestIn, stepIn, Opened, openLast, recordBefore, Coming, stepOn}
 use Rattle.image.specs.declared.Reading.{Reading}
 use Rattle.image.specs.declared.Reading.the-variants.{Taken, Refused}
@@ -118,7 +119,7 @@ module _ (s : List ℕ) (whole : Image) (p : Layout) (stack : List ℕ) (depth c
           let z : 4096 - count ≡ suc (4096 - (count + 1)) = omega (arith, w .few, k) in
           rw (← from-next (w .earlier) (4096 - (count + 1)) (slice (p .end) (length s) s) some-left, ← z) (w .rest)
 
-      refused-here : (d : ℕ) → nextOf (w .earlier) (headOf (slice (p .end) (length s) s)) ≡ refused d → Defective d count ≡ verdictOf whole
+      refused-here : (d : ℕ) → nextOf (w .earlier) (headOf (slice (p .end) (length s) s)) ≡ stopped d → Defective d count ≡ verdictOf whole
       refused-here d e = let f : defective d (length (w .earlier)) ≡ whole = rw e at one-step in rw (← f, w .counted)
 
       module _ (r : Reading) (m : ReadAt s (p .end) r) where
@@ -172,7 +173,7 @@ module _ {s : List ℕ} {whole : Image} {p : Layout} {stack : List ℕ} {depth c
 
   -- what the step says of a record
   abbrev Outcome : Stepped → Type 0
-  Outcome (Bad d) = nextOf earlier (headOf (slice (p .end) (length s) s)) ≡ refused d
+  Outcome (Bad d) = nextOf earlier (headOf (slice (p .end) (length s) s)) ≡ stopped d
   Outcome (Fits u) =
       (nextOf earlier (headOf (slice (p .end) (length s) s)) ≡ taken (recordOn s q) (slice (q .end) (length s) s))
       × Goes earlier (p .tag) (openLast s (widthOf (p .tag)) stack) depth (recordOn s q) u

@@ -7,7 +7,7 @@ use Rattle.records.specs.Record.{Record}
 use Rattle.image.specs.Image.{sound, defective, imageOf}
 use Rattle.image.specs.Entries.{spanOf}
 use Rattle.image.specs.Computing.{computing}
-use Rattle.image.specs.declared.Which.the-variants.{Range, Name}
+use Rattle.registry.specs.declared.Part.the-variants.{Range, Name}
 
 -- one AS block, 12 to 15, handle A, name B, active
 abbrev pub example : List ℕ

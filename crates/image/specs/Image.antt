@@ -4,22 +4,23 @@ use mathlib.Core.List.{List, [], _∷_, reverse}
 use Prim.Native.Nat.{ℕ, zero, suc}
 use lib.Dec.{leb, eqb}
 use lib.ListN.{length, drop, getD}
+use Rattle.registry.specs.Limits.{mostImage, mostRecords}
 use Rattle.fields.specs.Field.{Head, field, short, headOf}
 use Rattle.records.specs.Record.{Record}
 use Rattle.records.specs.Judge.{Judged, bad, good, judge}
 
 -- the first record of what is left of the image, with what follows it, or its defect
 pub data Next : Type 0 where
-  refused : ℕ → Next
+  stopped : ℕ → Next
   taken : Record → List ℕ → Next
 
 abbrev pub afterJudged : Judged → List ℕ → Next
-afterJudged (bad defect) rest = refused defect
+afterJudged (bad defect) rest = stopped defect
 afterJudged (good r) rest = taken r rest
 
 -- S5.1: a record cut short has defect 3
 abbrev pub nextOf : List Record → Head → Next
-nextOf earlier short = refused 3
+nextOf earlier short = stopped 3
 nextOf earlier (field tag contents rest) = afterJudged (judge earlier tag contents) rest
 
 -- the records of an image, or its defect and the number of the record that has it
@@ -28,7 +29,7 @@ pub data Image : Type 0 where
   defective : (defect place : ℕ) → Image
 
 abbrev pub afterNext : List Record → Next → (Record → List ℕ → Image) → Image
-afterNext earlier (refused defect) onward = defective defect (length earlier)
+afterNext earlier (stopped defect) onward = defective defect (length earlier)
 afterNext earlier (taken r rest) onward = onward r rest
 
 -- What is left of the image, after the earlier records, the latest first; at most n records may still come.
@@ -45,4 +46,4 @@ startsRight s = leb 4 (length s) && eqb (getD s 0 0) 1 && eqb (getD s 1 0) 0 && 
 -- S4.1: at most 262,144 bytes and 4,096 records. S5.2: defects 1 and 2 come before any record's, with place 0.
 unfoldable pub imageOf : List ℕ → Image
 imageOf s =
-    cond (leb (length s) 262144) (cond (startsRight s) (imageFrom 4096 [] (drop 4 s)) (defective 2 0)) (defective 1 0)
+    cond (leb (length s) mostImage) (cond (startsRight s) (imageFrom mostRecords [] (drop 4 s)) (defective 2 0)) (defective 1 0)

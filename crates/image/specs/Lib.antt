@@ -1,6 +1,6 @@
 pub mod Image
 pub mod Part
-pub mod Place
+pub mod Checking
 pub mod Nest
 pub mod Entries
 pub mod Example

@@ -5,11 +5,13 @@ use mathlib.Core.Path.{_≡_}
 use Prim.Native.Nat.{ℕ, zero, suc, _+_, _*_, _≤_, _<_}
 use lib.Dec.{leb, eqb}
 use lib.ListN.{length, getD}
+use Rattle.registry.specs.Tags.{isBlock, widthOf, asBlock}
 use Rattle.address.specs.Ranges.{Range, sortsAfter}
-use Rattle.address.specs.Positions.{Wide, rangeIn}
-use Rattle.records.specs.Record.{Record, isBlock, widthOf, rangeOf}
+use Rattle.octets.specs.Positions.{Wide}
+use Rattle.address.specs.Positions.{rangeIn}
+use Rattle.records.specs.Record.{Record, rangeOf}
 use Rattle.records.specs.Judge.{inOrder}
-use Rattle.records.specs.Place.{previousOf}
+use Rattle.records.specs.Positions.{previousOf}
 use Rattle.records.specs.Layout.{partsOf, recordOn, LaidOut}
 use Rattle.records.specs.declared.Layout.{Layout}
 use Rattle.image.specs.declared.Nesting.{Nesting}
@@ -61,7 +63,7 @@ recordBefore b p = previousOf b (p .tag) (partsOf p)
 pub record Coming (b : List ℕ) (p : Layout) (s : List ℕ) (r : Layout) (o stack : List ℕ) (depth : ℕ) : Type 0 where
   pub laid : LaidOut (length s) r
   pub earlier : 0 < p .tag → LaidOut (length b) p
-  pub open-blocks : r .tag ≤ 18 → p .tag ≡ r .tag → (depth ≤ length stack) × Opened o (widthOf (r .tag)) stack depth
+  pub open-blocks : r .tag ≤ asBlock → p .tag ≡ r .tag → (depth ≤ length stack) × Opened o (widthOf (r .tag)) stack depth
 
 -- how many blocks stay open around the record, or its defect
 abbrev pub stepOn : List ℕ → Layout → List ℕ → Layout → List ℕ → List ℕ → ℕ → Stepped

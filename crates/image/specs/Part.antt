@@ -6,32 +6,33 @@ use mathlib.Core.Logic.{_↔_}
 use mathlib.Core.Path.{_≡_}
 use lib.ListN.{take, drop}
 use denote.Ref.{RefT, now}
-use Rattle.address.specs.Lists.{any}
-use Rattle.records.specs.Record.{Record, isBlock}
+use Rattle.registry.specs.Tags.{isBlock}
+use Rattle.octets.specs.Lists.{any}
+use Rattle.records.specs.Record.{Record}
 use Rattle.image.specs.Image.{Image, sound, defective, imageOf}
-use Rattle.image.specs.declared.Which.{Which}
-use Rattle.image.specs.declared.Which.the-variants.{Range, Handle, Name}
+use Rattle.registry.specs.declared.Part.{Part}
+use Rattle.registry.specs.declared.Part.the-variants.{Range, Handle, Name}
 
 -- the records of an image, none if it is defective
 abbrev pub recordsOf : Image → List Record
 recordsOf (sound records) = records
 recordsOf (defective defect place) = []
 
-abbrev pub contentsOf : Which → Record → List ℕ
+abbrev pub contentsOf : Part → Record → List ℕ
 contentsOf Range r = r .range
 contentsOf Handle r = r .handle
 contentsOf Name r = r .name
 
-abbrev pub contentsOfFirst : Which → List Record → List ℕ
+abbrev pub contentsOfFirst : Part → List Record → List ℕ
 contentsOfFirst which [] = []
 contentsOfFirst which (r ∷ records) = contentsOf which r
 
 -- empty if there is no such record
-abbrev pub excerptOf : Image → ℕ → Which → List ℕ
+abbrev pub excerptOf : Image → ℕ → Part → List ℕ
 excerptOf image n which = contentsOfFirst which (drop n (recordsOf image))
 
 -- only a block has a range
-abbrev pub has : Which → Record → Bool
+abbrev pub has : Part → Record → Bool
 has Range r = isBlock (r .tag)
 has Handle r = true
 has Name r = true
@@ -39,7 +40,7 @@ has Name r = true
 -- This part is not empty exactly if there is such a record and it has such a part; a defective image has no records.
 -- Proved in proofs/EmptyPart.antt.
 abbrev pub EmptyPart : Type 0
-EmptyPart = (image : List ℕ) (n : ℕ) (which : Which) → (excerptOf (imageOf image) n which ≡ []) ↔ (any (has which) (take 1 (drop n (recordsOf (imageOf image)))) ≡ false)
+EmptyPart = (image : List ℕ) (n : ℕ) (which : Part) → (excerptOf (imageOf image) n which ≡ []) ↔ (any (has which) (take 1 (drop n (recordsOf (imageOf image)))) ≡ false)
 
 -- S2.2: a part of a slice, not a copy: it has these bytes, lies in the same memory, and starts so far behind the start of the whole.
 pub record PartFrom (whole : RefT (List ℕ)) (start : ℕ) (bytes : List ℕ) (part : RefT (List ℕ)) : Type 0 where

@@ -7,8 +7,8 @@ ghost use mathlib.Core.Path.{_≡_};
 ghost use Prim.Native.Nat.{_≤_, _<_};
 ghost use lib.ListN.{length};
 use image::Verdict;
-use image::Which;
 use libc::STDOUT_FILENO;
+use registry::Part;
 
 fn write(text: &[u8]) {
     io::write_all(STDOUT_FILENO, text);
@@ -45,7 +45,7 @@ fn verdict(v: Verdict) -> u32 {
     }
 }
 
-fn part(image: &[u8], record: u32, which: Which) {
+fn part(image: &[u8], record: u32, which: Part) {
     let span = entries::part_span(image, record, which);
     number(span.start as u64);
     write(b" ");
@@ -53,9 +53,9 @@ fn part(image: &[u8], record: u32, which: Which) {
 }
 
 fn parts(image: &[u8], record: u32) {
-    part(image, record, Which::Handle);
+    part(image, record, Part::Handle);
     write(b" ");
-    part(image, record, Which::Name);
+    part(image, record, Part::Name);
     write(b"\n");
 }
 

@@ -15,10 +15,10 @@ use borrow.Author.Tests.{ne-eqb, eqb-true}
 use Rattle.numeral.specs.Numeral.{decimal}
 use Rattle.numeral.specs.declared.Number.{Number}
 use Rattle.numeral.specs.declared.Number.the-variants.{Value, Malformed}
-use Rattle.pieces.specs.Split.{split, FirstPiece}
-use Rattle.address.specs.Lists.{found}
+use Rattle.octets.specs.Split.{split, FirstPiece}
+use Rattle.octets.specs.Lists.{found}
 use Rattle.ip.specs.Ip.{prefixed, joined, exactly, oneByte, octets, ipv4}
-use Rattle.pieces.proofs.Pieces.{split-cons}
+use Rattle.octets.proofs.Pieces.{split-cons}
 
 pub prefixed-twice : (a b : List ℕ) (o : Option (List ℕ)) → prefixed a (prefixed b o) ≡ prefixed (a ++ b) o
 unfolding prefixed

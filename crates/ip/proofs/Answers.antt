@@ -11,12 +11,12 @@ use lib.Dec.{eqb, leb, ltb}
 use lib.ListN.{length, take, drop, replicate, length-append, length-replicate}
 use lib.Seq.{take-all}
 use borrow.Author.Tests.{eqb-true, eqb-false, leb-true}
-use Rattle.address.specs.Lists.{found}
-use Rattle.address.specs.Number.{value}
+use Rattle.octets.specs.Lists.{found}
+use Rattle.octets.specs.Number.{value}
 use Rattle.address.specs.Address.{number, addressAt, number-at}
 use Rattle.address.specs.declared.Address.{Address}
-use Rattle.pieces.specs.Split.{split}
-use Rattle.pieces.proofs.Found.{found-is, found-none, none-some, cond-some}
+use Rattle.octets.specs.Split.{split}
+use Rattle.octets.proofs.Found.{found-is, found-none, none-some, cond-some}
 use Rattle.ip.specs.Ip.{exactly, octets, orElse, groups, side, elided, elision, ipv4, ipv6, withoutZone, addressOf}
 use Rattle.ip.specs.Answer.{answer}
 use Rattle.ip.specs.declared.Family.{Family}

@@ -9,12 +9,12 @@ use native.Mathlib.Omega.{arith}
 use lib.Dec.{eqb, ltb}
 use lib.ListN.{length, take, drop}
 use borrow.Author.Tests.{eqb-true, ne-eqb, ltb-true}
-use Rattle.address.specs.Lists.{any, contains}
+use Rattle.octets.specs.Lists.{any, contains}
 use Rattle.numeral.specs.Numeral.{digitValue, decimal}
 use Rattle.numeral.proofs.Laws.{decimal-not, h16-not}
-use Rattle.pieces.specs.Split.{split}
-use Rattle.pieces.proofs.Pieces.{in-piece}
-use Rattle.pieces.proofs.Tests.{and-left, and-right, or-false}
+use Rattle.octets.specs.Split.{split}
+use Rattle.octets.proofs.Pieces.{in-piece}
+use Rattle.octets.proofs.Connectives.{and-left, and-right, or-false}
 use Rattle.ip.specs.Ip.{prefixed, joined, exactly, oneByte, octets, ipv4, group, orElse, lastGroup, groups, side, elided, elisionFirst, elision, ipv6}
 use Rattle.ip.proofs.GroupLaws.{group-none}
 

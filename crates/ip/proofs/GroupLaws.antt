@@ -12,12 +12,12 @@ use lib.Seq.{length-take-le, paste, take-append-add}
 use borrow.Author.Tests.{ne-eqb, le-leb, lt-leb, leb-false}
 use Rattle.numeral.specs.Numeral.{h16}
 use Rattle.numeral.specs.declared.Number.the-variants.{Value, Malformed}
-use Rattle.pieces.specs.Split.{split, FirstPiece}
-use Rattle.address.specs.Lists.{found}
+use Rattle.octets.specs.Split.{split, FirstPiece}
+use Rattle.octets.specs.Lists.{found}
 use Rattle.ip.specs.Ip.{prefixed, joined, exactly, twoBytes, ipv4, group, orElse, lastGroup, groups, side, elided}
 use Rattle.ip.specs.Answer.{upTo, GroupsRead}
-use Rattle.pieces.proofs.Pieces.{split-cons}
-use Rattle.pieces.proofs.Found.{cond-some, cond-none}
+use Rattle.octets.proofs.Pieces.{split-cons}
+use Rattle.octets.proofs.Found.{cond-some, cond-none}
 use Rattle.ip.proofs.Addresses.{prefixed-twice}
 
 pub four-of : (a : List ℕ) → length a ≡ 4 → getD a 0 0 ∷ getD a 1 0 ∷ getD a 2 0 ∷ getD a 3 0 ∷ [] ≡ a
@@ -30,9 +30,9 @@ four-of (x ∷ y ∷ u ∷ v ∷ w ∷ r) h = let z : ⊥ = omega arith in absur
 
 -- ---- refusals and answers
 
-pub refused : {o : Option (List ℕ)} {ok : Bool} {len : ℕ} {bytes : List ℕ} → (ok ≡ false) × (len ≡ 0) → upTo 16 o ≡ none → GroupsRead o ok len bytes
+pub no-group : {o : Option (List ℕ)} {ok : Bool} {len : ℕ} {bytes : List ℕ} → (ok ≡ false) × (len ≡ 0) → upTo 16 o ≡ none → GroupsRead o ok len bytes
 unfolding found
-refused e h = record { small = omega arith; is = rw (e .0, h) }
+no-group e h = record { small = omega arith; is = rw (e .0, h) }
 
 pub answered : {o : Option (List ℕ)} {len : ℕ} {bytes : List ℕ} → len ≤ 16 → o ≡ some (take len bytes) → GroupsRead o true len bytes
 unfolding found upTo

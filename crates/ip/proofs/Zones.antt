@@ -8,10 +8,10 @@ use mathlib.Core.Option.{none}
 use native.Mathlib.Omega.{arith}
 use lib.ListN.{length}
 use borrow.Author.Tests.{le-leb, lt-leb}
-use Rattle.address.specs.Lists.{contains}
+use Rattle.octets.specs.Lists.{contains}
 use Rattle.numeral.specs.Numeral.{digitValue}
-use Rattle.pieces.specs.Split.{before, after}
-use Rattle.pieces.proofs.Cuts.{cut-known, after-nowhere, contains-known}
+use Rattle.octets.specs.Split.{before, after}
+use Rattle.octets.proofs.Cuts.{cut-known, after-nowhere, contains-known}
 use Rattle.ip.specs.Ip.{ipv4, ipv6, withoutZone, addressOf}
 use Rattle.ip.specs.Zones.{Zones}
 use Rattle.ip.proofs.Answers.{address-six}

@@ -6,7 +6,7 @@ use mathlib.Core.Bool.{Bool, cond}
 use mathlib.Core.Option.{Option, none, some}
 use lib.Dec.{eqb, leb}
 use lib.ListN.{length, take, replicate}
-use Rattle.address.specs.Lists.{found}
+use Rattle.octets.specs.Lists.{found}
 use Rattle.address.specs.Address.{addressAt}
 use Rattle.ip.specs.declared.Family.the-variants.{V4, V6, Malformed}
 use Rattle.ip.specs.declared.IpAddress.{IpAddress}

@@ -9,7 +9,7 @@ use lib.ListN.{length, take, drop, replicate}
 use Rattle.numeral.specs.Numeral.{decimal, h16}
 use Rattle.numeral.specs.declared.Number.{Number}
 use Rattle.numeral.specs.declared.Number.the-variants.{Value, Malformed}
-use Rattle.pieces.specs.Split.{split, before, after}
+use Rattle.octets.specs.Split.{split, before, after}
 
 -- the bytes a in front of others, if there are any others
 unfoldable pub prefixed : List ℕ → Option (List ℕ) → Option (List ℕ)

@@ -6,7 +6,7 @@ use mathlib.Core.List.{List, [], _∷_, _++_}
 use mathlib.Core.Bool.{false}
 use mathlib.Core.Option.{none}
 use lib.ListN.{length}
-use Rattle.address.specs.Lists.{contains}
+use Rattle.octets.specs.Lists.{contains}
 use Rattle.ip.specs.Ip.{ipv4, ipv6, orElse, addressOf}
 
 pub record Zones : Type 0 where

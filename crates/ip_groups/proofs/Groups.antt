@@ -4,8 +4,8 @@ use mathlib.Core.Path.{_≡_, refl, ap}
 use mathlib.Core.List.{List, [], _∷_}
 use native.Mathlib.Omega.{arith}
 use lib.ListN.{length}
-use Rattle.address.specs.Number.{Digits, Bytes}
-use Rattle.address.proofs.Below.{digits-rest}
+use Rattle.octets.specs.Number.{Digits, Bytes}
+use Rattle.octets.proofs.Below.{digits-rest}
 use Rattle.ip_groups.specs.Groups.{groupsOf}
 
 -- the groups of twice so many bytes

@@ -58,7 +58,7 @@ beside-run gs =
 pub record RunsFrom (gs : List ℕ) (i first longest at : ℕ) : Type 0 where
   pub front : first ≡ zerosFirst (drop i gs)
   pub most : longest ≡ longestRun (drop i gs)
-  pub place : at ≡ i + runAt (longestRun (drop i gs)) (drop i gs)
+  pub found-at : at ≡ i + runAt (longestRun (drop i gs)) (drop i gs)
 
 pub runs-none : (gs : List ℕ) → RunsFrom gs (length gs) 0 0 (length gs)
 unfolding zerosFirst longestRun runAt
@@ -67,7 +67,7 @@ runs-none gs =
     record {
       front = sym (ap zerosFirst e);
       most = sym (ap longestRun e);
-      place = omega (arith, ap (λ (l : List ℕ). runAt (longestRun l) l) e);
+      found-at = omega (arith, ap (λ (l : List ℕ). runAt (longestRun l) l) e);
     }
 
 pub runs-all : {gs : List ℕ} {i first longest at : ℕ} → i ≡ 0 → RunsFrom gs i first longest at → RunsOf gs first longest at
@@ -76,7 +76,7 @@ runs-all {gs} {i} z r =
     record {
       front = r .front ∙ ap zerosFirst e;
       most = r .most ∙ ap longestRun e;
-      place = r .place ∙ omega (arith, ap (λ (l : List ℕ). runAt (longestRun l) l) e);
+      found-at = r .found-at ∙ omega (arith, ap (λ (l : List ℕ). runAt (longestRun l) l) e);
     }
 
 zeros-most : (gs : List ℕ) → zerosFirst gs ≤ length gs
@@ -105,20 +105,20 @@ module _ (gs : List ℕ) (j : ℕ) (inside : j < length gs) where
   unfolding longestRun
   most-here = rw (drop-cons gs j 0 inside)
 
-  place-here : (n : ℕ) → n ≤ zerosFirst (drop j gs) → runAt n (drop j gs) ≡ 0
+  start-here : (n : ℕ) → n ≤ zerosFirst (drop j gs) → runAt n (drop j gs) ≡ 0
   unfolding runAt
-  place-here n h = rw (drop-cons gs j 0 inside, le-leb n (zerosFirst (getD gs j 0 ∷ drop (suc j) gs)) (rw (drop-cons gs j 0 inside) at h))
+  start-here n h = rw (drop-cons gs j 0 inside, le-leb n (zerosFirst (getD gs j 0 ∷ drop (suc j) gs)) (rw (drop-cons gs j 0 inside) at h))
 
-  place-later : (n : ℕ) → zerosFirst (drop j gs) < n → runAt n (drop j gs) ≡ suc (runAt n (drop (suc j) gs))
+  start-later : (n : ℕ) → zerosFirst (drop j gs) < n → runAt n (drop j gs) ≡ suc (runAt n (drop (suc j) gs))
   unfolding runAt
-  place-later n h = rw (drop-cons gs j 0 inside, lt-leb n (zerosFirst (getD gs j 0 ∷ drop (suc j) gs)) (rw (drop-cons gs j 0 inside) at h))
+  start-later n h = rw (drop-cons gs j 0 inside, lt-leb n (zerosFirst (getD gs j 0 ∷ drop (suc j) gs)) (rw (drop-cons gs j 0 inside) at h))
 
   module _ {first₁ longest at first : ℕ} (r : RunsFrom gs (suc j) first₁ longest at) (now : first ≡ zerosFirst (drop j gs)) where
     -- the run here is as long as any later one
     pub run-here : longest ≤ first → RunsFrom gs j first first j
     run-here h =
         let m : longestRun (drop j gs) ≡ first = omega (arith, most-here, r .most) in
-        record { front = now; most = sym m; place = omega (arith, place-here (longestRun (drop j gs)) (omega arith)) }
+        record { front = now; most = sym m; found-at = omega (arith, start-here (longestRun (drop j gs)) (omega arith)) }
 
     -- a later one is longer
     pub run-later : first < longest → RunsFrom gs j first longest at
@@ -128,7 +128,7 @@ module _ (gs : List ℕ) (j : ℕ) (inside : j < length gs) where
         record {
           front = now;
           most = sym m;
-          place = omega (arith, r .place, place-later (longestRun (drop j gs)) (omega arith), ap (λ (n : ℕ). runAt n (drop (suc j) gs)) l);
+          found-at = omega (arith, r .found-at, start-later (longestRun (drop j gs)) (omega arith), ap (λ (n : ℕ). runAt n (drop (suc j) gs)) l);
         }
 
 -- the same for a loop that goes down from i

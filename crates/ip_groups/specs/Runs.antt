@@ -13,4 +13,4 @@ bytesOf (g ∷ gs) = g / 256 ∷ g % 256 ∷ bytesOf gs
 pub record RunsOf (gs : List ℕ) (first longest at : ℕ) : Type 0 where
   pub front : first ≡ zerosFirst gs
   pub most : longest ≡ longestRun gs
-  pub place : at ≡ runAt (longestRun gs) gs
+  pub found-at : at ≡ runAt (longestRun gs) gs

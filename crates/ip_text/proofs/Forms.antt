@@ -6,18 +6,18 @@ use native.Mathlib.Omega.{arith}
 use lib.Dec.{eqb}
 use lib.ListN.{length, getD, take, drop, length-take, length-drop}
 use borrow.Author.Tests.{le-leb, lt-leb, eq-eqb, ne-eqb}
-use Rattle.pieces.specs.Ascii.{ascii}
-use Rattle.pieces.proofs.Pieces.{rest-is}
-use Rattle.pieces.proofs.Tests.{and-false}
+use Rattle.octets.specs.Ascii.{ascii}
+use Rattle.octets.proofs.Pieces.{rest-is}
+use Rattle.octets.proofs.Connectives.{and-false}
 use Rattle.ip_groups.specs.Groups.{groupsOf, zerosFirst, longestRun, runAt}
 use Rattle.ip_text.specs.Text.{dotted, colons, shortened, isMapped, ipv6Text}
 use Rattle.ip_groups.specs.Runs.{RunsOf}
 use Rattle.ip_groups.proofs.Runs.{beside-run}
 
 -- groups with their longest run, and its place
-module _ (gs : List ℕ) (longest at : ℕ) (most : longest ≡ longestRun gs) (place : at ≡ runAt (longestRun gs) gs) where
+module _ (gs : List ℕ) (longest at : ℕ) (most : longest ≡ longestRun gs) (found-at : at ≡ runAt (longestRun gs) gs) where
   sides : length (take at gs) + (longest + length (drop (at + longest) gs)) ≡ length gs
-  sides = rw (place, most) (beside-run gs)
+  sides = rw (found-at, most) (beside-run gs)
 
   pub run-inside : 2 ≤ longest → at + longest ≤ length gs
   run-inside h = omega (arith, sides, length-take at gs, length-drop (at + longest) gs)
@@ -31,7 +31,7 @@ module _ (gs : List ℕ) (longest at : ℕ) (most : longest ≡ longestRun gs) (
   unfolding shortened
   short-form h =
       let l : 2 ≤ longestRun gs = omega arith in
-      rw (rest-is gs (at + longest), place, most, le-leb 2 (longestRun gs) l)
+      rw (rest-is gs (at + longest), found-at, most, le-leb 2 (longestRun gs) l)
 
 -- an address of sixteen bytes, by its groups
 module _ (a : List ℕ) {groups : List ℕ} {first longest at : ℕ} (is : groups ≡ groupsOf a) (runs : RunsOf groups first longest at) where

@@ -8,10 +8,10 @@ use native.Mathlib.Decide.{ℕ-discrete}
 use lib.Dec.{leb}
 use lib.ListN.{length, take, drop, length-append, length-drop}
 use borrow.Author.Tests.{leb-true, eq-eqb, ne-eqb}
-use Rattle.address.specs.Number.{Digits, Bytes}
-use Rattle.address.specs.Positions.{Wide}
-use Rattle.address.proofs.Below.{digits-take, digits-drop}
-use Rattle.pieces.specs.Ascii.{ascii}
+use Rattle.octets.specs.Number.{Digits, Bytes}
+use Rattle.octets.specs.Positions.{Wide}
+use Rattle.octets.proofs.Below.{digits-take, digits-drop}
+use Rattle.octets.specs.Ascii.{ascii}
 use Rattle.numeral.proofs.Spelled.{spelled-most, spelled-bound}
 use Rattle.ip_groups.specs.Groups.{groupsOf, longestRun, runAt}
 use Rattle.ip_text.specs.Text.{dotted, colons, shortened, isMapped, ipv6Text, textOf}

@@ -4,7 +4,7 @@ use Prim.Native.String.{String}
 use mathlib.Core.Path.{_≡_, refl}
 use mathlib.Core.List.{List, [], _∷_, map}
 use lib.ListN.{length, replicate}
-use Rattle.pieces.specs.Ascii.{ascii}
+use Rattle.octets.specs.Ascii.{ascii}
 use Rattle.ip_text.specs.Text.{textOf}
 use Rattle.ip_groups.specs.Runs.{bytesOf}
 use Rattle.ip_text.specs.Computing.{computing}

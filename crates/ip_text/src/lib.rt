@@ -3,10 +3,10 @@ ghost use mathlib.Core.Path.{_≡_};
 ghost use mathlib.Core.List.{_++_};
 ghost use Prim.Native.Nat.{_+_, _≤_};
 ghost use lib.ListN.{length};
-ghost use Rattle.pieces.specs.Ascii.{ascii};
-ghost use Rattle.address.specs.Positions.{Wide};
+ghost use Rattle.octets.specs.Ascii.{ascii};
+ghost use Rattle.octets.specs.Positions.{Wide};
 ghost use Rattle.numeral.specs.Digits.{spelled};
-ghost use Rattle.listing.specs.Writing.{Written};
+ghost use Rattle.output.specs.Writing.{Written};
 ghost use Rattle.ip_groups.specs.Groups.{longestRun, runAt};
 ghost use Rattle.ip_text.specs.Text.{colons, dotted, shortened, ipv6Text, textOf};
 ghost use Rattle.digits.specs.Base.{radix};
@@ -15,7 +15,7 @@ use digits::put_spelled;
 use ip_groups::groups_of;
 use ip_groups::octets_of;
 use ip_groups::zero_runs;
-use listing::put_bytes;
+use output::put_bytes;
 
 // Given bytes, and numbers in the rest of the text after them.
 fn put_after(front: &[u8], sep: u8, base: Base, numbers: &[u32], text: &mut [u8]) -> usize

@@ -5,7 +5,7 @@ use mathlib.Core.List.{List, [], _++_}
 use native.Mathlib.Omega.{arith}
 use lib.Dec.{eqb}
 use lib.ListN.{length, length-append}
-use Rattle.pieces.specs.Ascii.{ascii}
+use Rattle.octets.specs.Ascii.{ascii}
 use Rattle.layouts.specs.declared.Format.{Format}
 use Rattle.layouts.specs.declared.Format.the-variants.{Plain, Cisco, Bird, Juniper, Json}
 use Rattle.layouts.specs.Layout.{Layout, layoutOf, endOf}
@@ -14,7 +14,7 @@ pub record Short (l : Layout) (name : List ℕ) : Type 0 where
   pub head : length (l .head) ≤ 42 + length name
   pub before : length (l .before) ≤ 25 + length name
   pub slash : length (l .slash) ≤ 2
-  pub between : length (l .between) ≤ 20
+  pub separator : length (l .separator) ≤ 20
   pub last : length (l .last) ≤ 20
   pub foot : length (l .foot) ≤ 5
 
@@ -33,7 +33,7 @@ short Plain width name = record {
   head = omega arith;
   before = around-most [] name (ascii " ") 25 (omega arith);
   slash = omega arith;
-  between = omega arith;
+  separator = omega arith;
   last = omega arith;
   foot = omega arith;
 }
@@ -41,7 +41,7 @@ short Cisco width name = record {
   head = either-most (eqb width 4) (ascii "no ip prefix-list ") (ascii "no ipv6 prefix-list ") name (ascii "\n") 42 (omega arith) (omega arith);
   before = either-most (eqb width 4) (ascii "ip prefix-list ") (ascii "ipv6 prefix-list ") name (ascii " permit ") 25 (omega arith) (omega arith);
   slash = omega arith;
-  between = omega arith;
+  separator = omega arith;
   last = omega arith;
   foot = omega arith;
 }
@@ -49,7 +49,7 @@ short Bird width name = record {
   head = around-most [] name (ascii " = [\n") 42 (omega arith);
   before = omega arith;
   slash = omega arith;
-  between = omega arith;
+  separator = omega arith;
   last = omega arith;
   foot = omega arith;
 }
@@ -57,7 +57,7 @@ short Juniper width name = record {
   head = around-most (ascii "policy-options {\nreplace:\n prefix-list ") name (ascii " {\n") 42 (omega arith);
   before = omega arith;
   slash = omega arith;
-  between = omega arith;
+  separator = omega arith;
   last = omega arith;
   foot = omega arith;
 }
@@ -65,7 +65,7 @@ short Json width name = record {
   head = around-most (ascii "{ \"") name (ascii "\": [\n") 42 (omega arith);
   before = omega arith;
   slash = omega arith;
-  between = omega arith;
+  separator = omega arith;
   last = omega arith;
   foot = omega arith;
 }
@@ -75,6 +75,6 @@ module _ (l : Layout) (name : List ℕ) (h : Short l name) where
   unfolding endOf
   end-most left = go (eqb left 0)
     where
-      go : (b : Bool) → length (cond b (l .last) (l .between)) ≤ 20
+      go : (b : Bool) → length (cond b (l .last) (l .separator)) ≤ 20
       go true = h .last
-      go false = h .between
+      go false = h .separator

@@ -7,9 +7,9 @@ use native.Mathlib.Omega.{arith}
 use native.Mathlib.Numerals.{add-one}
 use lib.ListN.{length, take, getD, set}
 use lib.Seq.{take-suc, take-length}
-use Rattle.pieces.specs.Ascii.{code}
-use Rattle.listing.specs.Writing.{Written}
-use Rattle.listing.proofs.Writing.{written-one}
+use Rattle.octets.specs.Ascii.{code}
+use Rattle.output.specs.Writing.{Written}
+use Rattle.output.proofs.Writing.{written-one}
 use Rattle.layouts.specs.declared.Format.{Format}
 use Rattle.layouts.specs.Layout.{isAllowed, nameFrom, nameIn}
 

@@ -9,8 +9,8 @@ use borrow.Author.Tests.{leb-true}
 use lib.Dec.{leb, eqb}
 use lib.ListN.{length, drop, length-drop}
 use lib.Seq.{length-take-le}
-use Rattle.pieces.specs.Ascii.{ascii}
-use Rattle.pieces.proofs.Tests.{and-left, and-right}
+use Rattle.octets.specs.Ascii.{ascii}
+use Rattle.octets.proofs.Connectives.{and-left, and-right}
 use Rattle.layouts.specs.declared.Format.{Format}
 use Rattle.layouts.specs.declared.Format.the-variants.{Plain, Cisco, Bird, Juniper, Json}
 use Rattle.layouts.specs.Layout.{layoutOf}

@@ -5,8 +5,8 @@ use Prim.Native.String.{String}
 use mathlib.Core.Bool.{Bool, true, cond, not, _&&_, _||_}
 use mathlib.Core.List.{List, [], _∷_, _++_}
 use lib.Dec.{eqb}
-use Rattle.address.specs.Lists.{within, contains}
-use Rattle.pieces.specs.Ascii.{ascii, isAlphanumeric}
+use Rattle.octets.specs.Lists.{within, contains}
+use Rattle.octets.specs.Ascii.{ascii, isAlphanumeric}
 use Rattle.layouts.specs.declared.Format.{Format}
 use Rattle.layouts.specs.declared.Format.the-variants.{Plain, Cisco, Bird, Juniper, Json}
 
@@ -35,7 +35,7 @@ pub record Layout : Type 0 where
   -- between an address and its length
   pub slash : List ℕ
   -- after each prefix but the last
-  pub between : List ℕ
+  pub separator : List ℕ
   -- after the last prefix
   pub last : List ℕ
   -- at the end
@@ -50,7 +50,7 @@ layoutOf Plain width name = record {
   head = [];
   before = around "" name " ";
   slash = ascii "/";
-  between = ascii "\n";
+  separator = ascii "\n";
   last = ascii "\n";
   foot = [];
 }
@@ -58,7 +58,7 @@ layoutOf Cisco width name = record {
   head = cond (eqb width 4) (around "no ip prefix-list " name "\n") (around "no ipv6 prefix-list " name "\n");
   before = cond (eqb width 4) (around "ip prefix-list " name " permit ") (around "ipv6 prefix-list " name " permit ");
   slash = ascii "/";
-  between = ascii "\n";
+  separator = ascii "\n";
   last = ascii "\n";
   foot = [];
 }
@@ -66,7 +66,7 @@ layoutOf Bird width name = record {
   head = around "" name " = [\n";
   before = ascii "    ";
   slash = ascii "/";
-  between = ascii ",\n";
+  separator = ascii ",\n";
   last = ascii "\n";
   foot = ascii "];\n";
 }
@@ -74,7 +74,7 @@ layoutOf Juniper width name = record {
   head = around "policy-options {\nreplace:\n prefix-list " name " {\n";
   before = ascii "    ";
   slash = ascii "/";
-  between = ascii ";\n";
+  separator = ascii ";\n";
   last = ascii ";\n";
   foot = ascii " }\n}\n";
 }
@@ -82,11 +82,11 @@ layoutOf Json width name = record {
   head = around "{ \"" name "\": [\n";
   before = ascii "    { \"prefix\": \"";
   slash = ascii "\\/";
-  between = ascii "\", \"exact\": true },\n";
+  separator = ascii "\", \"exact\": true },\n";
   last = ascii "\", \"exact\": true }\n";
   foot = ascii "] }\n";
 }
 
 -- what follows a prefix, by how many are left
 unfoldable pub endOf : Layout → (left : ℕ) → List ℕ
-endOf l left = cond (eqb left 0) (l .last) (l .between)
+endOf l left = cond (eqb left 0) (l .last) (l .separator)

@@ -4,7 +4,7 @@ use mathlib.Core.Bool.{cond}
 use mathlib.Core.List.{List, [], _∷_, _++_}
 use lib.Dec.{eqb, ltb}
 use lib.ListN.{take, drop, getD}
-use Rattle.pieces.specs.Ascii.{ascii}
+use Rattle.octets.specs.Ascii.{ascii}
 use Rattle.layouts.specs.declared.Format.{Format}
 use Rattle.layouts.specs.declared.Format.the-variants.{Plain, Cisco, Bird, Juniper, Json}
 use Rattle.layouts.specs.Layout.{Layout}
@@ -39,7 +39,7 @@ layoutAt style name = record {
   head = cond (eqb style 0) [] (namedAt (8 * style) name);
   before = cond (ltb style 3) (namedAt (8 * style + 2) name) (textAt (8 * style + 2));
   slash = textAt (8 * style + 4);
-  between = textAt (8 * style + 5);
+  separator = textAt (8 * style + 5);
   last = textAt (8 * style + 6);
   foot = textAt (8 * style + 7);
 }

@@ -5,8 +5,8 @@ use mathlib.Core.Path.{_≡_, sym, ap, _∙_}
 use mathlib.Core.List.{List, [], _∷_, _++_, append-assoc}
 use native.Mathlib.Omega.{arith}
 use lib.ListN.{length}
-use Rattle.address.specs.Number.{Digits}
-use Rattle.address.proofs.Below.{digits-none, digits-cons}
+use Rattle.octets.specs.Number.{Digits}
+use Rattle.octets.proofs.Below.{digits-none, digits-cons}
 use Rattle.numeral.specs.Digits.{decimalText, spelled}
 use Rattle.numeral.proofs.Spelled.{following-append, following-most, spelled-most}
 use Rattle.answers.specs.declared.Answer.{Answer}

@@ -5,7 +5,7 @@ use mathlib.Core.List.{List, [], _∷_, _++_, map}
 use native.Mathlib.Omega.{arith}
 use lib.ListN.{length, length-append}
 use lib.Seq.{take-at}
-use Rattle.pieces.specs.Split.{split}
+use Rattle.octets.specs.Split.{split}
 use Rattle.numeral.specs.Numeral.{digitValue, digitsFrom}
 use Rattle.numeral.proofs.Spelled.{split-spelled, values-read}
 use Rattle.answers.specs.Reply.{Reply, line}

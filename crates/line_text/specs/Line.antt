@@ -3,7 +3,7 @@ use Prim.Native.Nat.{ℕ, _-_}
 use Prim.Native.Char.{code}
 use mathlib.Core.List.{List, [], _∷_, _++_, map}
 use lib.ListN.{length, take}
-use Rattle.pieces.specs.Split.{split}
+use Rattle.octets.specs.Split.{split}
 use Rattle.numeral.specs.Numeral.{digitsFrom}
 use Rattle.numeral.specs.Digits as Digits
 use Rattle.answers.specs.Reply.{Reply, line}

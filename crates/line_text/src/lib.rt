@@ -2,7 +2,7 @@
 ghost use Prim.Native.Nat.{_+_, _*_, _≤_};
 ghost use lib.ListN.{length, take};
 ghost use Rattle.answers.specs.Answered.{replyOf};
-ghost use Rattle.listing.specs.Writing.{Written};
+ghost use Rattle.output.specs.Writing.{Written};
 ghost use Rattle.line_text.specs.Line.{lineText};
 use answers::Answer;
 use digits::Base;

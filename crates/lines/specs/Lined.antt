@@ -5,17 +5,17 @@ use mathlib.Core.Bool.{cond}
 use mathlib.Core.List.{List, []}
 use lib.Dec.{ltb}
 use lib.ListN.{length}
-use Rattle.listing.specs.Writing.{Written}
+use Rattle.output.specs.Writing.{Written}
 use Rattle.answers.specs.Reply.{Reply, listAfter}
 use Rattle.line_text.specs.Line.{lineText}
 
 -- bytes that every line fits into: 4 + 4,096 numbers of at most 10 digits, a space or a line feed after each
-abbrev pub room : ℕ
-room = (4 + 4096) * (10 + 1)
+abbrev pub longestLine : ℕ
+longestLine = (4 + 4096) * (10 + 1)
 
 -- What is written to a buffer of so many bytes: the line, if every line fits, else nothing.
 unfoldable pub textIn : Reply → ℕ → List ℕ
-textIn r size = cond (ltb size room) [] (lineText r)
+textIn r size = cond (ltb size longestLine) [] (lineText r)
 
 -- What a call that writes a reply's line to the start of a buffer promises: the number of bytes written, the whole buffer and the whole list afterwards.
 pub record Lined (reply : Reply) (list list′ out out′ : List ℕ) (n : ℕ) : Type 0 where

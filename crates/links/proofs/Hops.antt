@@ -9,11 +9,11 @@ use borrow.Author.Tests.{leb-true, leb-false}
 use lib.Dec.{leb}
 use lib.ListN.{length, getD, set}
 use lib.Seq.{getD-set-same, getD-set-other}
-use Rattle.address.specs.Positions.{numberIn}
-use Rattle.records.specs.Record.{widthOf}
-use Rattle.blocks.specs.Blocks.{Block}
+use Rattle.registry.specs.Tags.{widthOf}
+use Rattle.octets.specs.Positions.{numberIn}
+use Rattle.forest.specs.Blocks.{Block}
 use Rattle.address.proofs.Geometry.{Strictly}
-use Rattle.blocks.proofs.Laminar.{Laminar, accepted-laminar}
+use Rattle.forest.proofs.Laminar.{Laminar, accepted-laminar}
 use Rattle.scans.specs.Standing.{blocksIn}
 use Rattle.links.specs.Links.{nth, Link, Linked, Gathered}
 use Rattle.links.proofs.Indices.{first-rises, begins-inside}
@@ -33,12 +33,12 @@ module _ {bs : List Block} (l : Laminar bs) (i : ℕ) where
       let x = h .ahead in
       let y = n .ahead in
       let s : Strictly (nth bs i .range) (nth bs j .range) = begins-inside l i j x u b in
-      record { ahead = omega arith; upto = n .upto; inner = λ m p q. by-place s m p q (decLt m j) (decLt j m) }
+      record { ahead = omega arith; upto = n .upto; inner = λ m p q. by-order s m p q (decLt m j) (decLt j m) }
     where
-      by-place : Strictly (nth bs i .range) (nth bs j .range) → (m : ℕ) → i < m → m < k → Dec (m < j) → Dec (j < m) → nth bs m .range .last ≤ nth bs i .range .last
-      by-place s m p q (yes a) c = h .inner m p a
-      by-place s m p q (no a) (yes c) = let z = n .inner m c q in omega arith
-      by-place s m p q (no a) (no c) = let e : m ≡ j = omega arith in rw e (omega arith)
+      by-order : Strictly (nth bs i .range) (nth bs j .range) → (m : ℕ) → i < m → m < k → Dec (m < j) → Dec (j < m) → nth bs m .range .last ≤ nth bs i .range .last
+      by-order s m p q (yes a) c = h .inner m p a
+      by-order s m p q (no a) (yes c) = let z = n .inner m c q in omega arith
+      by-order s m p q (no a) (no c) = let e : m ≡ j = omega arith in rw e (omega arith)
 
   hop-stop : (j : ℕ) → Hopping bs i j → (j < length bs → nth bs i .range .last < nth bs j .range .first) → Link bs i j
   hop-stop j h b =
@@ -53,7 +53,7 @@ module _ {bs : List Block} (l : Laminar bs) (i : ℕ) where
       }
 
 -- the same where the blocks stand in the image, whose width the code has as w, and u is the answer of the comparison
-module _ {s : List ℕ} {family : ℕ} {starts : List ℕ} {n : ℕ} (g : Gathered s family starts n) where
+module _ {s : List ℕ} {family : ℕ} {firsts : List ℕ} {n : ℕ} (g : Gathered s family firsts n) where
   laminar : Laminar (blocksIn s family)
   laminar = accepted-laminar (blocksIn s family) (g .nested)
 
@@ -62,7 +62,7 @@ module _ {s : List ℕ} {family : ℕ} {starts : List ℕ} {n : ℕ} (g : Gather
     hops-start = hop-start laminar i (omega (arith, g .counted))
 
     module _ (j w : ℕ) (e : w ≡ widthOf family) (h : Hopping (blocksIn s family) i j) (q : j < n) {u : Bool}
-        (t : u ≡ leb (numberIn s (getD starts j 0) w) (numberIn s (getD starts i 0 + w) w)) where
+        (t : u ≡ leb (numberIn s (getD firsts j 0) w) (numberIn s (getD firsts i 0 + w) w)) where
       compared : u ≡ leb (nth (blocksIn s family) j .range .first) (nth (blocksIn s family) i .range .last)
       compared = rw (g .ranges j q, g .ranges i p, ← e) t
 

@@ -5,10 +5,10 @@ use mathlib.Core.List.{List, [], _∷_, List·Memᴰ·head, List·Memᴰ·tail}
 use native.Mathlib.Omega.{arith}
 use native.Mathlib.Decide.{decLt}
 use lib.ListN.{length}
-use Rattle.address.specs.Lists.{_∈_}
-use Rattle.blocks.specs.Blocks.{Block}
+use Rattle.octets.specs.Lists.{_∈_}
+use Rattle.forest.specs.Blocks.{Block}
 use Rattle.address.proofs.Geometry.{Proper, Strictly}
-use Rattle.blocks.proofs.Laminar.{Laminar, empty, cons, Before, around, left, is-proper}
+use Rattle.forest.proofs.Laminar.{Laminar, empty, cons, Before, around, left, is-proper}
 use Rattle.links.specs.Links.{nth}
 
 nth-in : (bs : List Block) (k : ℕ) → k < length bs → nth bs k ∈ bs

@@ -4,11 +4,12 @@ use mathlib.Core.Path.{_≡_}
 use mathlib.Core.List.{List}
 use lib.Dec.{T}
 use lib.ListN.{length, getD}
+use Rattle.registry.specs.Limits.{mostImage, mostRecords}
+use Rattle.registry.specs.Tags.{widthOf, rangeOffset}
 use Rattle.address.specs.Positions.{rangeIn}
-use Rattle.records.specs.Record.{widthOf}
 use Rattle.image.specs.declared.Run.{Run}
-use Rattle.blocks.specs.Blocks.{Block}
-use Rattle.blocks.specs.Defects.{accepted}
+use Rattle.forest.specs.Blocks.{Block}
+use Rattle.forest.specs.Defects.{accepted}
 use Rattle.scans.specs.Standing.{blocksIn}
 
 -- what stands past the end of a list of blocks
@@ -30,25 +31,25 @@ abbrev pub Linked : List Block → List ℕ → ℕ → Type 0
 Linked bs links i = (j : ℕ) → i ≤ j → j < length bs → Link bs j (getD links j 0)
 
 -- the records of a run, each of which starts inside an image
-pub record Reachable (places : List ℕ) (blocks : Run) : Type 0 where
+pub record Reachable (starts : List ℕ) (blocks : Run) : Type 0 where
   pub forward : blocks .from ≤ blocks .until
-  pub few : blocks .until ≤ 4096
-  pub low : (i : ℕ) → blocks .from ≤ i → i < blocks .until → getD places i 0 ≤ 262144
+  pub few : blocks .until ≤ mostRecords
+  pub low : (i : ℕ) → blocks .from ≤ i → i < blocks .until → getD starts i 0 ≤ mostImage
 
 -- where the ranges of the n blocks of a run start
-pub record Started (places : List ℕ) (blocks : Run) (starts : List ℕ) (n : ℕ) : Type 0 where
+pub record Started (starts : List ℕ) (blocks : Run) (firsts : List ℕ) (n : ℕ) : Type 0 where
   pub counted : blocks .from + n ≡ blocks .until
-  pub start : (k : ℕ) → k < n → getD starts k 0 ≡ getD places (blocks .from + k) 0 + 6
+  pub start : (k : ℕ) → k < n → getD firsts k 0 ≡ getD starts (blocks .from + k) 0 + rangeOffset
 
 -- the n blocks of a family of a sound image, and where their ranges start
-pub record Gathered (s : List ℕ) (family : ℕ) (starts : List ℕ) (n : ℕ) : Type 0 where
+pub record Gathered (s : List ℕ) (family : ℕ) (firsts : List ℕ) (n : ℕ) : Type 0 where
   pub nested : T (accepted (blocksIn s family))
   pub counted : length (blocksIn s family) ≡ n
-  pub few : n ≤ 4096
-  pub ranges : (k : ℕ) → k < n → nth (blocksIn s family) k .range ≡ rangeIn s (getD starts k 0) (widthOf family)
-  pub fits : (k : ℕ) → k < n → getD starts k 0 + 2 * widthOf family ≤ length s
+  pub few : n ≤ mostRecords
+  pub ranges : (k : ℕ) → k < n → nth (blocksIn s family) k .range ≡ rangeIn s (getD firsts k 0) (widthOf family)
+  pub fits : (k : ℕ) → k < n → getD firsts k 0 + 2 * widthOf family ≤ length s
 
 -- and their record numbers, one after another
 pub record Numbered (s : List ℕ) (family from n : ℕ) : Type 0 where
-  pub few : from + n ≤ 4096
+  pub few : from + n ≤ mostRecords
   pub number : (k : ℕ) → k < n → nth (blocksIn s family) k .number ≡ from + k

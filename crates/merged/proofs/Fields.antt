@@ -1,4 +1,4 @@
--- The bytes at a place, and what stands at the start of a row.
+-- The bytes at a start, and what stands at the start of a row.
 use mathlib.Core.Path.{_≡_, sym, _∙_, ap}
 use mathlib.Core.List.{List, []}
 use Prim.Native.Nat.{ℕ, _-_, _≤_, _<_}
@@ -8,7 +8,7 @@ use borrow.Author.Tests.{lt-ltb, le-ltb}
 use lib.ListN.{length, take, drop}
 use lib.Seq.{slice, take-length}
 use Rattle.fields.specs.Field.{field, short, headOf}
-use Rattle.fields.specs.Place.{fieldAt, headAt, FieldInside}
+use Rattle.fields.specs.Positions.{fieldAt, headAt, FieldInside}
 use Rattle.fields.specs.Heads.{head-slice, field-inside}
 use Rattle.fields.specs.Slices.{part-slice}
 use Rattle.fields.specs.declared.Field.{Field}
@@ -42,11 +42,11 @@ module _ (s : List ℕ) (at : ℕ) (f : Field) (e : f ≡ fieldAt s at (length s
         let h : at ≤ length s = omega (arith, i .after, i .forward, i .within) in
         rw (← whole-part s at, ← whole-part s b) (sym (head-slice s at (length s) h (le-refl _)) ∙ ap (headAt s (length s)) (sym e ∙ g))
 
-module _ (image changes x : List ℕ) (place : ℕ) where
-  pub place-image : place < 262144 → x ≡ fieldBytes image place → x ≡ bytesAt image changes place
+module _ (image changes x : List ℕ) (start : ℕ) where
+  pub start-image : start < 262144 → x ≡ fieldBytes image start → x ≡ bytesAt image changes start
   unfolding bytesAt
-  place-image h e = rw (lt-ltb place 262144 h) e
+  start-image h e = rw (lt-ltb start 262144 h) e
 
-  pub place-changes : 262144 ≤ place → x ≡ fieldBytes changes (place - 262144) → x ≡ bytesAt image changes place
+  pub start-changes : 262144 ≤ start → x ≡ fieldBytes changes (start - 262144) → x ≡ bytesAt image changes start
   unfolding bytesAt
-  place-changes h e = rw (le-ltb place 262144 h) e
+  start-changes h e = rw (le-ltb start 262144 h) e

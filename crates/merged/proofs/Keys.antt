@@ -8,10 +8,11 @@ use borrow.Author.Tests.{eqb-true, eq-eqb, ne-eqb, le-ltb}
 use lib.Dec.{ltb, eqb}
 use lib.ListN.{length, take}
 use lib.Seq.{take-all}
-use Rattle.address.specs.Number.{atMost}
+use Rattle.registry.specs.Tags.{isBlock, widthOf}
+use Rattle.octets.specs.Number.{atMost}
 use Rattle.address.specs.Ranges.{Range, rangeFrom, sortsAfter}
 use Rattle.address.specs.Positions.{rangeIn}
-use Rattle.records.specs.Record.{Record, isBlock, widthOf, rangeOf, keyOf, sortedAfter, follows}
+use Rattle.records.specs.Record.{Record, rangeOf, keyOf, sortedAfter, follows}
 use Rattle.rows.specs.Entry.{Entry}
 use Rattle.changes.specs.Change.{keyed, sameKey, isThere}
 use Rattle.changes.specs.Rank.{rankOf}

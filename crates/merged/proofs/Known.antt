@@ -9,16 +9,17 @@ use borrow.Author.Tests.{leb-true, leb-false, eq-eqb, ne-eqb}
 use lib.Dec.{leb, eqb}
 use lib.ListN.{length, getD, drop, length-drop}
 use lib.Seq.{slice, length-slice, take-all, take-length}
-use Rattle.records.specs.Record.{Record, whole, recordOf, widthOf, goodContents, rangeOf, firstOf, lastOf}
+use Rattle.registry.specs.Tags.{widthOf}
+use Rattle.records.specs.Record.{Record, whole, recordOf, goodContents, rangeOf, firstOf, lastOf}
 use Rattle.records.specs.Judge.{judgeAlone}
-use Rattle.records.specs.Place.{bytesOf, handleSpan, nameSpan}
+use Rattle.records.specs.Positions.{bytesOf, handleSpan, nameSpan}
 use Rattle.records.specs.declared.Span.{Span}
 use Rattle.records.proofs.Accepted.{alone-good, overlap-good, first-last}
 use Rattle.records.proofs.Laid.{Laid, laid}
 use Rattle.records.proofs.Shapes.{no-block, a-block, named-fields}
 use Rattle.address.specs.Positions.{rangeIn}
 use Rattle.records.proofs.Contents.{range-slice}
-use Rattle.fields.proofs.Starts.{starts}
+use Rattle.fields.proofs.Starts.{starts-field}
 use Rattle.merged.specs.Held.{parsedFrom, Recorded, bareKey, Key}
 
 pub record Known (s : List ℕ) : Type 0 where
@@ -32,7 +33,7 @@ pub record Known (s : List ℕ) : Type 0 where
 
 pub known : (s : List ℕ) → Recorded s → Known s
 known s k =
-    let o = starts s (k .tag) (k .contents) [] (k .head) in
+    let o = starts-field s (k .tag) (k .contents) [] (k .head) in
     let n : 3 ≤ length s = omega (arith, o .long) in
     let e : slice 3 (length s) s ≡ k .contents = rw (take-length s) (sym (take-all (length (k .contents)) (drop 3 s) (omega (arith, o .long, length-drop 3 s))) ∙ o .contents-is) in
     let a = alone-good [] (k .tag) (k .contents) (parsedFrom s) (overlap-good [] (judgeAlone [] (k .tag) (k .contents)) (parsedFrom s) (k .alone) .0) in

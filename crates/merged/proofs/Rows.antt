@@ -1,4 +1,4 @@
--- The rows of the places of an index, and the entries of an image by their places.
+-- The rows of the starts of an index, and the entries of an image by their starts.
 use mathlib.Core.Path.{_≡_, refl, sym, _∙_, ap, subst}
 use mathlib.Core.Bool.{Bool, true, false, cond}
 use mathlib.Core.List.{List, [], _∷_, _++_, map, append-assoc, append-nil}
@@ -10,21 +10,21 @@ use lib.Dec.{ltb}
 use lib.ListN.{length, getD, take, drop, length-append, length-take, length-drop, take-append-drop, drop-of-length-le}
 use lib.Seq.{slice, take-suc, drop-cons, length-slice, take-take, drop-drop, length-take-le}
 use Rattle.fields.specs.Field.{field, headOf, sizeOf}
-use Rattle.fields.specs.Place.{fieldAt, behind, passed}
+use Rattle.fields.specs.Positions.{fieldAt, behind, passed}
 use Rattle.fields.specs.declared.Field.{Field}
 use Rattle.fields.specs.declared.Field.the-variants.{Whole, Short}
 use Rattle.records.specs.Record.{Record}
 use Rattle.image.specs.Image.{imageOf}
 use Rattle.image.specs.Part.{recordsOf}
-use Rattle.image.specs.Entries.{placeOf}
+use Rattle.image.specs.Entries.{startOf}
 use Rattle.image.specs.Index.{Indexed}
 use Rattle.image.proofs.Soundness.{is-sound, counted, opens, few-records, few-bytes}
 use Rattle.image.proofs.Walk.{start-length}
-use Rattle.image.proofs.Noted.{place-next}
+use Rattle.image.proofs.Noted.{start-next}
 use Rattle.rows.specs.Entry.{Entry, entry, entriesOf, rowOf}
 use Rattle.rows.proofs.Images.{entries-good}
 use Rattle.rows.specs.Good.{GoodEntry, AllGood, good-cons}
-use Rattle.fields.proofs.Starts.{starts, no-field}
+use Rattle.fields.proofs.Starts.{starts-field, no-field}
 use Rattle.merged.specs.Held.{fieldBytes, bytesAt, parsedFrom, entryOf, entriesAt}
 use Rattle.merged.proofs.Fields.{bytes-inside, bytes-whole, bytes-short, head-short, head-whole}
 
@@ -74,13 +74,13 @@ field-bound s at (Whole tag a b) e =
     let i = bytes-inside s at (Whole tag a b) e tag a b refl in
     rw (← bytes-whole s at (Whole tag a b) e tag a b refl) (omega (arith, length-take (b - at) (drop at s), length-drop at s))
 
-pub bytes-bound : (image changes : List ℕ) (place : ℕ) → length image ≤ 262144 → length changes ≤ 262144 → length (bytesAt image changes place) ≤ 262144
+pub bytes-bound : (image changes : List ℕ) (start : ℕ) → length image ≤ 262144 → length changes ≤ 262144 → length (bytesAt image changes start) ≤ 262144
 unfolding bytesAt
-bytes-bound image changes place h k = by-place (ltb place 262144)
+bytes-bound image changes start h k = by-order (ltb start 262144)
   where
-    by-place : (t : Bool) → length (cond t (fieldBytes image place) (fieldBytes changes (place - 262144))) ≤ 262144
-    by-place true = omega (arith, field-bound image place (fieldAt image place (length image)) refl)
-    by-place false = omega (arith, field-bound changes (place - 262144) (fieldAt changes (place - 262144) (length changes)) refl)
+    by-order : (t : Bool) → length (cond t (fieldBytes image start) (fieldBytes changes (start - 262144))) ≤ 262144
+    by-order true = omega (arith, field-bound image start (fieldAt image start (length image)) refl)
+    by-order false = omega (arith, field-bound changes (start - 262144) (fieldAt changes (start - 262144) (length changes)) refl)
 
 -- the bytes of a field that stands at a position
 pub field-here : (s : List ℕ) (at tag : ℕ) (contents rest : List ℕ) → at ≤ length s → headOf (drop at s) ≡ field tag contents rest
@@ -96,7 +96,7 @@ field-here s at tag contents rest h e = by-field (fieldAt s at (length s)) refl
         let n : b - at ≡ 3 + length contents = omega (arith, i .after, i .forward, ap length c, length-slice a b s (i .within)) in
         sym (bytes-whole s at (Whole t a b) x t a b refl) ∙ rw n
 
--- The places of an image's records
+-- The starts of an image's records
 
 entry-again : (e : Entry) → GoodEntry e → entryOf (e .bytes) ≡ e
 unfolding parsedFrom
@@ -142,30 +142,30 @@ module _ (image : List ℕ) (records : List Record) (index : List ℕ) (i at : �
 
   head-here : headOf s ≡ field (is-good .tag) (is-good .contents) (drop (sizeOf s) s)
   head-here =
-      let x = starts (take (sizeOf s) s) (is-good .tag) (is-good .contents) [] (is-good .head) .followed (drop (sizeOf s) s) in
+      let x = starts-field (take (sizeOf s) s) (is-good .tag) (is-good .contents) [] (is-good .head) .followed (drop (sizeOf s) s) in
       rw (take-append-drop (sizeOf s) s) at x
 
   bytes-here : fieldBytes image at ≡ take (sizeOf s) s
   bytes-here =
-      let x = starts s (is-good .tag) (is-good .contents) _ head-here in
+      let x = starts-field s (is-good .tag) (is-good .contents) _ head-here in
       field-here image at (is-good .tag) (is-good .contents) _ (m .inside) head-here ∙ rw (← x .size)
 
   long-here : at + sizeOf s ≤ length image
   long-here =
-      let x = starts s (is-good .tag) (is-good .contents) _ head-here in
+      let x = starts-field s (is-good .tag) (is-good .contents) _ head-here in
       omega (arith, x .size, x .long, length-drop at image, m .inside)
 
   size-here : length (fieldBytes image at) ≡ sizeOf s
   size-here = rw bytes-here (length-take-le (sizeOf s) s (omega (arith, long-here, length-drop at image)))
 
-  place-fits : at < 262144
-  place-fits =
-      let x = starts s (is-good .tag) (is-good .contents) _ head-here in
+  start-fits : at < 262144
+  start-fits =
+      let x = starts-field s (is-good .tag) (is-good .contents) _ head-here in
       omega (arith, long-here, x .size)
 
   at-image : (changes : List ℕ) → bytesAt image changes at ≡ take (sizeOf s) s
   unfolding bytesAt
-  at-image changes = rw (lt-ltb at 262144 place-fits) bytes-here
+  at-image changes = rw (lt-ltb at 262144 start-fits) bytes-here
 
   passed-next : Passed image records index (i + 1) (at + length (fieldBytes image at))
   passed-next =
@@ -201,25 +201,25 @@ behind-bytes s at (Whole tag a b) e =
     rw (← bytes-whole s at (Whole tag a b) e tag a b refl) (omega (arith, i .after, i .forward, i .within, length-take (b - at) (drop at s), length-drop at s))
 
 -- the index of a sound image holds its records
-module _ (image places : List ℕ) (count : ℕ) (x : Indexed image count places) where
+module _ (image starts : List ℕ) (count : ℕ) (x : Indexed image count starts) where
   abbrev records : List Record
   records = recordsOf (imageOf image)
 
-  first-place : placeOf image 0 ≡ 4
-  unfolding placeOf passed
-  first-place = refl
+  first-start : startOf image 0 ≡ 4
+  unfolding startOf passed
+  first-start = refl
 
-  all-passed : (i : ℕ) → i ≤ count → Passed image records places i (placeOf image i)
+  all-passed : (i : ℕ) → i ≤ count → Passed image records starts i (startOf image i)
   all-passed zero h =
       let e = is-sound (imageOf image) count (x .sound) in
-      rw first-place (passed-start image records places (start-length image (opens image records e .started)) (entries-good image records e))
+      rw first-start (passed-start image records starts (start-length image (opens image records e .started)) (entries-good image records e))
   all-passed (suc i) h =
       let o : i + 1 ≡ suc i = omega arith in
-      let n : placeOf image i + length (fieldBytes image (placeOf image i)) ≡ placeOf image (i + 1) = sym (place-next image i ∙ behind-bytes image (placeOf image i) _ refl) in
-      let z = passed-next image records places i (placeOf image i) (all-passed i (omega arith)) (omega (arith, counted (imageOf image) count (x .sound)))
-      (omega (arith, x .full, few-records image count (x .sound))) (few-bytes image count (x .sound)) (x .place i h) in
-      subst (λ (j : ℕ). Passed image records places j (placeOf image j)) o (subst (λ (at : ℕ). Passed image records places (i + 1) at) n z)
+      let n : startOf image i + length (fieldBytes image (startOf image i)) ≡ startOf image (i + 1) = sym (start-next image i ∙ behind-bytes image (startOf image i) _ refl) in
+      let z = passed-next image records starts i (startOf image i) (all-passed i (omega arith)) (omega (arith, counted (imageOf image) count (x .sound)))
+      (omega (arith, x .full, few-records image count (x .sound))) (few-bytes image count (x .sound)) (x .start i h) in
+      subst (λ (j : ℕ). Passed image records starts j (startOf image j)) o (subst (λ (at : ℕ). Passed image records starts (i + 1) at) n z)
 
-  pub index-entries : (changes : List ℕ) → entriesAt image changes (take count places) ≡ entriesOf records (drop 4 image)
+  pub index-entries : (changes : List ℕ) → entriesAt image changes (take count starts) ≡ entriesOf records (drop 4 image)
   index-entries changes =
-      passed-end image records places count (placeOf image count) (all-passed count (omega arith)) (omega (arith, counted (imageOf image) count (x .sound))) changes
+      passed-end image records starts count (startOf image count) (all-passed count (omega arith)) (omega (arith, counted (imageOf image) count (x .sound))) changes

@@ -1,4 +1,4 @@
--- Serves contracts and proofs. The records that an index of places holds: each place is a position of the image, or 262,144 and a position of the change file.
+-- Serves contracts and proofs. The records that an index of starts holds: each is a position of the image or, from 262,144 on, of the change file.
 use mathlib.Core.Path.{_≡_}
 use mathlib.Core.Bool.{cond}
 use mathlib.Core.List.{List, [], map}
@@ -6,11 +6,13 @@ use Prim.Native.Nat.{ℕ, _-_, _*_, _≤_}
 use lib.Dec.{ltb}
 use lib.ListN.{length}
 use lib.Seq.{slice}
+use Rattle.registry.specs.Limits.{mostImage}
+use Rattle.registry.specs.Tags.{isBlock, widthOf, asBlock, ipv4Network}
 use Rattle.fields.specs.Field.{Head, field, short, headOf}
-use Rattle.fields.specs.Place.{fieldAt}
+use Rattle.fields.specs.Positions.{fieldAt}
 use Rattle.fields.specs.declared.Field.{Field}
 use Rattle.fields.specs.declared.Field.the-variants.{Whole, Short}
-use Rattle.records.specs.Record.{Record, isBlock, widthOf, keyOf}
+use Rattle.records.specs.Record.{Record, keyOf}
 use Rattle.records.specs.Judge.{Judged, bad, good, judge}
 use Rattle.rows.specs.Entry.{Entry, entry, parsedOf}
 use Rattle.rows.specs.Good.{GoodEntry, AllGood}
@@ -25,9 +27,9 @@ bytesFrom s at Short = []
 abbrev pub fieldBytes : List ℕ → ℕ → List ℕ
 fieldBytes s at = bytesFrom s at (fieldAt s at (length s))
 
--- the bytes at a place
+-- the bytes at a start
 unfoldable pub bytesAt : List ℕ → List ℕ → ℕ → List ℕ
-bytesAt image changes place = cond (ltb place 262144) (fieldBytes image place) (fieldBytes changes (place - 262144))
+bytesAt image changes start = cond (ltb start mostImage) (fieldBytes image start) (fieldBytes changes (start - mostImage))
 
 -- the record of these bytes, with them
 abbrev pub recordOr : Judged → Record
@@ -45,16 +47,16 @@ abbrev pub entryOf : List ℕ → Entry
 entryOf bytes = entry (parsedFrom bytes) bytes
 
 abbrev pub entriesAt : List ℕ → List ℕ → List ℕ → List Entry
-entriesAt image changes places = map (λ (p : ℕ). entryOf (bytesAt image changes p)) places
+entriesAt image changes starts = map (λ (p : ℕ). entryOf (bytesAt image changes p)) starts
 
 -- one whole record without defects 3 to 5
 abbrev pub Recorded : List ℕ → Type 0
 Recorded bytes = GoodEntry (entryOf bytes)
 
--- what the places of an index hold: such records, in the order of the image
-pub record Held (image changes places : List ℕ) : Type 0 where
-  pub good : AllGood (entriesAt image changes places)
-  pub ordered : Ordered (parsedOf (entriesAt image changes places))
+-- what the starts of an index hold: such records, in the order of the image
+pub record Held (image changes starts : List ℕ) : Type 0 where
+  pub good : AllGood (entriesAt image changes starts)
+  pub ordered : Ordered (parsedOf (entriesAt image changes starts))
 
 -- Keys
 
@@ -64,5 +66,5 @@ bareKey r = cond (isBlock (r .tag)) (r .range) (keyOf r)
 
 -- a key with the tag of a record
 pub record Key (tag : ℕ) (key : List ℕ) : Type 0 where
-  pub known : 16 ≤ tag
-  pub sized : tag ≤ 18 → length key ≡ 2 * widthOf tag
+  pub known : ipv4Network ≤ tag
+  pub sized : tag ≤ asBlock → length key ≡ 2 * widthOf tag

@@ -1,20 +1,26 @@
-// The records of an image and those that a change file adds, by one index of places, in the order of their keys.
+// The records of an image and those that a change file adds, by one index of starts, in the order of their keys.
 ghost use mathlib.Core.Path.{_≡_};
 ghost use mathlib.Core.List.{_∷_, _++_};
 ghost use Prim.Native.Nat.{_+_, _-_, _*_, _≤_, _<_};
 ghost use lib.ListN.{length, take, drop};
+ghost use Rattle.registry.specs.Limits.{mostImage, mostRecords};
 ghost use Rattle.records.specs.Record.{follows};
 ghost use Rattle.rows.specs.Entry.{rowOf};
 ghost use Rattle.changes.specs.Change.{keyed, isThere};
 ghost use Rattle.changes.specs.Rank.{rankOf};
 ghost use Rattle.merged.specs.Held.{fieldBytes, bytesAt, parsedFrom, entriesAt, Recorded, Held, bareKey, Key};
-use address::bytes_at_most;
 use fields::Field;
 use fields::step_at;
 use image::range_after;
 use records::handle_span;
 use records::name_span;
-use records::width_of;
+use registry::AS_BLOCK;
+use registry::ENTITY;
+use registry::IMAGE_END;
+use registry::PerRecord;
+use registry::RANGE_OFFSET;
+use registry::width_of;
+use words::bytes_at_most;
 
 // The field that starts at a position; nothing where no whole field stands.
 fn field_bytes(s: &[u8], at: usize) -> &[u8]
@@ -30,14 +36,14 @@ fn field_bytes(s: &[u8], at: usize) -> &[u8]
     }
 }
 
-// The record at a place: a position of the image, or 262,144 and a position of the change file.
-pub fn record_at<'a>(image: &'a [u8], changes: &'a [u8], place: u32) -> &'a [u8]
-    ensures { λ r. ⌜ now r ≡ bytesAt (now (image .entry)) (now (changes .entry)) place ⌝ }
+// The record that starts there: at a position of the image or, from 262,144 on, of the change file.
+pub fn record_at<'a>(image: &'a [u8], changes: &'a [u8], start: u32) -> &'a [u8]
+    ensures { λ r. ⌜ now r ≡ bytesAt (now (image .entry)) (now (changes .entry)) start ⌝ }
 {
-    if place < 262144 {
-        field_bytes(image, place as usize)
+    if start < IMAGE_END {
+        field_bytes(image, start as usize)
     } else {
-        field_bytes(changes, (place - 262144) as usize)
+        field_bytes(changes, (start - IMAGE_END) as usize)
     }
 }
 
@@ -47,11 +53,11 @@ pub fn key_of(r: &[u8]) -> &[u8]
     ensures { λ k. ⌜ now k ≡ bareKey (parsedFrom (now (r .entry))) ⌝ }
 {
     let tag = r[0];
-    if tag <= 0x12 {
-        let end = 6 + 2 * width_of(tag);
-        return &r[6..end];
+    if tag <= AS_BLOCK {
+        let end = RANGE_OFFSET + 2 * width_of(tag);
+        return &r[RANGE_OFFSET..end];
     }
-    if tag == 0x15 {
+    if tag == ENTITY {
         let handle = handle_span(r, tag, 3, r.len());
         let start = handle.start;
         let end = handle.end;
@@ -71,7 +77,7 @@ fn key_after(p: u8, a: &[u8], q: u8, b: &[u8]) -> bool
     if p != q {
         return p < q;
     }
-    if p <= 0x12 {
+    if p <= AS_BLOCK {
         return range_after(a, 0, b, 0, width_of(p));
     }
     !bytes_at_most(b, a)
@@ -138,10 +144,10 @@ pub fn is_there<'a>(
     !comes_after(record_at(image, changes, index[at]), tag, key)
 }
 
-// A place put into the index; those from there on move up.
-pub fn insert_at(index: &mut [u32; 9600], n: usize, at: usize, place: u32)
+// A start put into the index; those from there on move up.
+pub fn insert_at(index: &mut [u32; 9600], n: usize, at: usize, start: u32)
     requires { ⌜ (length (now index) ≡ 9600) × (n < 9600) × (at ≤ n) ⌝ }
-    ensures { λ r. ⌜ (take (n + 1) (now (index .exit)) ≡ take at (now (index .entry)) ++ place ∷ drop at (take n (now (index .entry))))
+    ensures { λ r. ⌜ (take (n + 1) (now (index .exit)) ≡ take at (now (index .entry)) ++ start ∷ drop at (take n (now (index .entry))))
         × (length (now (index .exit)) ≡ 9600) ⌝ }
 {
     let mut i = n;
@@ -149,10 +155,10 @@ pub fn insert_at(index: &mut [u32; 9600], n: usize, at: usize, place: u32)
         index[i] = index[i - 1];
         i -= 1;
     }
-    index[i] = place;
+    index[i] = start;
 }
 
-// A place taken out of the index; those behind it move down.
+// A start taken out of the index; those behind it move down.
 pub fn remove_at(index: &mut [u32; 9600], n: usize, at: usize)
     requires { ⌜ (length (now index) ≡ 9600) × (n ≤ 9600) × (at < n) ⌝ }
     ensures { λ r. ⌜ (take (n - 1) (now (index .exit)) ≡ take at (now (index .entry)) ++ drop (at + 1) (take n (now (index .entry))))
@@ -165,22 +171,22 @@ pub fn remove_at(index: &mut [u32; 9600], n: usize, at: usize)
     }
 }
 
-// The first places of the index of an image.
-pub fn note_places(places: &[u32; 4096], count: usize, index: &mut [u32; 9600])
-    requires { ⌜ (count ≤ 4096) × (length (now places) ≡ 4096) × (length (now index) ≡ 9600) ⌝ }
-    ensures { λ r. ⌜ (take count (now (index .exit)) ≡ take count (now (places .entry))) × (length (now (index .exit)) ≡ 9600) ⌝ }
+// The starts of the records of an image.
+pub fn note_starts(starts: &PerRecord, count: usize, index: &mut [u32; 9600])
+    requires { ⌜ (count ≤ mostRecords) × (length (now starts) ≡ mostRecords) × (length (now index) ≡ 9600) ⌝ }
+    ensures { λ r. ⌜ (take count (now (index .exit)) ≡ take count (now (starts .entry))) × (length (now (index .exit)) ≡ 9600) ⌝ }
 {
     let mut i: usize = 0;
     while i < count {
-        index[i] = places[i];
+        index[i] = starts[i];
         i += 1;
     }
 }
 
 // How many bytes the records have.
 pub fn size_of<'a>(image: &'a [u8], changes: &'a [u8], index: &[u32; 9600], n: usize) -> usize
-    requires { ⌜ (length (now index) ≡ 9600) × (n ≤ 9600) × (length (now image) ≤ 262144) × (length (now changes) ≤ 262144) ⌝ }
-    ensures { λ r. ⌜ (r ≡ length (rowOf (entriesAt (now (image .entry)) (now (changes .entry)) (take n (now (index .entry)))))) × (r ≤ 262144 * 9600) ⌝ }
+    requires { ⌜ (length (now index) ≡ 9600) × (n ≤ 9600) × (length (now image) ≤ mostImage) × (length (now changes) ≤ mostImage) ⌝ }
+    ensures { λ r. ⌜ (r ≡ length (rowOf (entriesAt (now (image .entry)) (now (changes .entry)) (take n (now (index .entry)))))) × (r ≤ mostImage * 9600) ⌝ }
 {
     let mut size: usize = 0;
     let mut i: usize = 0;

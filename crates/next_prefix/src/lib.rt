@@ -5,12 +5,12 @@ ghost use Prim.Native.Nat.{suc, _+_, _^_, _%_, _≤_, _<_};
 ghost use lib.Count.{trailingZeros};
 ghost use lib.Dec.{eqb};
 ghost use lib.ListN.{length};
-ghost use Rattle.address.specs.Words.{numberOf};
+ghost use Rattle.octets.specs.Words.{numberOf};
 ghost use Rattle.cidr.specs.First.{Largest, Top};
-ghost use Rattle.next_prefix.specs.Walked.{between, walked};
-use address::Words;
-use address::power_of_two;
-use address::words_at_most;
+ghost use Rattle.next_prefix.specs.Walked.{wordsRange, walked};
+use octets::Words;
+use words::power_of_two;
+use words::words_at_most;
 
 // The zero bits at the low end.
 pub fn trailing_zeros(a: Words) -> u32
@@ -168,7 +168,7 @@ struct Step {
 // The prefix at start: its trailing zeros decide, capped by what remains.
 fn prefix_at(start: Words, last: Words) -> Step
     requires { ⌜ numberOf start ≤ numberOf last ⌝ }
-    ensures { λ r. ⌜ Largest (between start last) (r .free) × (suc (numberOf (r .end)) ≡ numberOf start + 2 ^ r .free) ⌝ }
+    ensures { λ r. ⌜ Largest (wordsRange start last) (r .free) × (suc (numberOf (r .end)) ≡ numberOf start + 2 ^ r .free) ⌝ }
 {
     let zeros = trailing_zeros(start);
     let whole = last_of(start, zeros);

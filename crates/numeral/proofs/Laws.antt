@@ -11,8 +11,8 @@ use lib.Dec.{leb, ltb, eqb}
 use lib.ListN.{length, getD, drop, drop-of-length-le}
 use lib.Seq.{drop-cons}
 use borrow.Author.Tests.{le-leb, lt-leb, lt-ltb, le-ltb, leb-true, eqb-true}
-use Rattle.address.specs.Lists.{contains}
-use Rattle.pieces.proofs.Tests.{and-right, and-false}
+use Rattle.octets.specs.Lists.{contains}
+use Rattle.octets.proofs.Connectives.{and-right, and-false}
 use Rattle.numeral.specs.Numeral.{digitValue, areDigits, digitsFrom, numeralFrom, numeral, leadingZero, decimal, h16}
 use Rattle.numeral.specs.declared.Number.{Number}
 use Rattle.numeral.specs.declared.Number.the-variants.{Value, Malformed}

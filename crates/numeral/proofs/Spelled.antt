@@ -7,11 +7,11 @@ use native.Mathlib.Omega.{arith}
 use native.Mathlib.Nat.{suc-mul}
 use lib.ListN.{length, length-append}
 use borrow.Author.Tests.{ne-eqb}
-use Rattle.address.specs.Number.{Digits}
-use Rattle.address.specs.Lists.{contains}
-use Rattle.address.proofs.Below.{digits-rest}
-use Rattle.pieces.specs.Split.{split}
-use Rattle.pieces.proofs.Cuts.{split-then, split-whole, lacks-both}
+use Rattle.octets.specs.Number.{Digits}
+use Rattle.octets.specs.Lists.{contains}
+use Rattle.octets.proofs.Below.{digits-rest}
+use Rattle.octets.specs.Split.{split}
+use Rattle.octets.proofs.Cuts.{split-then, split-whole, lacks-both}
 use Rattle.numeral.specs.Numeral.{digitValue, digitsFrom}
 use Rattle.numeral.specs.Digits.{numeralText, following, spelled}
 use Rattle.numeral.proofs.Laws.{digits-lack}

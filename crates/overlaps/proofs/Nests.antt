@@ -4,9 +4,10 @@ use mathlib.Core.List.{List}
 use Prim.Native.Nat.{ℕ, _+_, _*_, _≤_}
 use native.Mathlib.Omega.{arith}
 use lib.ListN.{length}
+use Rattle.registry.specs.Tags.{widthOf}
 use Rattle.address.specs.Ranges.{Range}
-use Rattle.address.specs.Positions.{numberIn}
-use Rattle.records.specs.Record.{widthOf, firstOf, lastOf}
+use Rattle.octets.specs.Positions.{numberIn}
+use Rattle.records.specs.Record.{firstOf, lastOf}
 use Rattle.merged.specs.Held.{parsedFrom, Recorded}
 use Rattle.merged.proofs.Known.{range-read, key-room}
 

@@ -67,19 +67,19 @@ module _ (image changes index : List ℕ) (count : ℕ) (k : count ≤ length in
   abbrev es : List Entry
   es = entriesAt image changes (take count index)
 
-  abbrev place : ℕ
-  place = getD index i 0
+  abbrev start : ℕ
+  start = getD index i 0
 
   abbrev x : Entry
-  x = entryOf (bytesAt image changes place)
+  x = entryOf (bytesAt image changes start)
 
   abbrev q : Record
-  q = parsedFrom (bytesAt image changes place)
+  q = parsedFrom (bytesAt image changes start)
 
   here : drop i es ≡ x ∷ drop (suc i) es
   here = entry-at image changes index count k i l
 
-  pub whole : Recorded (bytesAt image changes place)
+  pub whole : Recorded (bytesAt image changes start)
   whole = recorded-at image changes index count k h i l
 
   pub after : After before (m .bound) q
@@ -101,7 +101,7 @@ module _ (image changes index : List ℕ) (count : ℕ) (k : count ≤ length in
         let w = whole in
         let a : imageFrom (4096 - i) (m .earlier) (rowOf (drop i es))
         ≡ afterNext (m .earlier) (afterJudged (judge (m .earlier) (w .tag) (w .contents)) (rowOf (drop (suc i) es))) (λ r t. imageFrom (4096 - (i + 1)) (r ∷ m .earlier) t) =
-        rw (here, z) (image-step (m .earlier) (w .tag) (w .contents) (rowOf (drop (suc i) es)) (4096 - (i + 1)) (bytesAt image changes place ++ rowOf (drop (suc i) es)) (entry-head x w (rowOf (drop (suc i) es)))) in
+        rw (here, z) (image-step (m .earlier) (w .tag) (w .contents) (rowOf (drop (suc i) es)) (4096 - (i + 1)) (bytesAt image changes start ++ rowOf (drop (suc i) es)) (entry-head x w (rowOf (drop (suc i) es)))) in
         let b : judge (m .earlier) (w .tag) (w .contents) ≡ cond true (cond (crossesAny (m .earlier) q) (bad 7) (good q)) (bad 6) =
         judged-after [] (w .tag) (w .contents) q (w .alone) (m .earlier) ∙ rw (m .next x (drop (suc i) es) here .0) in
         sym (a ∙ rw b (by-overlap (crossesAny (m .earlier) q))) ∙ m .rest
@@ -130,16 +130,16 @@ module _ (image changes index : List ℕ) (count : ℕ) (k : count ≤ length in
         in-stack : u < length stack
         in-stack = omega (arith, scan-depth, m .size)
 
-        pub scan-next : Scanned image changes es (set stack u place) (u + 1) (q .tag) (i + 1)
+        pub scan-next : Scanned image changes es (set stack u start) (u + 1) (q .tag) (i + 1)
         unfolding inOrder
         scan-next = record {
           earlier = q ∷ m .earlier;
           bound = firstOf q;
           counted = omega (arith, m .counted);
-          opened = under .onward _ (λ d h. rw (getD-set-other stack u d place 0 (λ z. omega (arith, z, h)))) (λ h. rw (getD-set-same stack u place 0 in-stack));
-          blocks = λ h. pushed (λ (v : ℕ). Recorded (bytesAt image changes v) × (parsedFrom (bytesAt image changes v) .tag ≡ q .tag)) stack u place in-stack (whole, refl)
+          opened = under .onward _ (λ d h. rw (getD-set-other stack u d start 0 (λ z. omega (arith, z, h)))) (λ h. rw (getD-set-same stack u start 0 in-stack));
+          blocks = λ h. pushed (λ (v : ℕ). Recorded (bytesAt image changes v) × (parsedFrom (bytesAt image changes v) .tag ≡ q .tag)) stack u start in-stack (whole, refl)
               (λ d k. let f = under .family (omega (arith, k)) in (rw f at (m .blocks (omega arith))) d (omega (arith, k, under .few)));
-          size = length-set stack u place ∙ m .size;
+          size = length-set stack u start ∙ m .size;
           shallow = omega (arith, under .few, m .shallow);
           rest = rw (add-one i) (rw (under .clear, add-one i) at step);
           next = λ y more f.
@@ -147,7 +147,7 @@ module _ (image changes index : List ℕ) (count : ℕ) (k : count ≤ length in
               (g, follows-after q (y .parsed) g));
         }
 
-        pub scan-on : (t : ℕ) → t ≡ q .tag → Scanned image changes es (set stack u place) (u + 1) t (i + 1)
+        pub scan-on : (t : ℕ) → t ≡ q .tag → Scanned image changes es (set stack u start) (u + 1) t (i + 1)
         scan-on t f = rw f scan-next
 
 -- the answers

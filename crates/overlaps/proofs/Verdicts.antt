@@ -7,12 +7,12 @@ use native.Mathlib.Omega.{arith}
 use borrow.Author.Tests.{lt-leb}
 use lib.ListN.{length, take, drop, length-append, length-reverse, length-drop, drop-of-length-le}
 use Rattle.image.specs.Image.{defective, imageFrom, startsRight, imageOf}
-use Rattle.image.specs.Place.{verdictOf}
+use Rattle.image.specs.Checking.{verdictOf}
 use Rattle.image.specs.declared.Verdict.the-variants.{Sound, Defective}
 use Rattle.image.proofs.Walk.{from-end, from-full}
 use Rattle.rows.specs.Entry.{Entry, rowOf}
 use Rattle.rows.specs.Good.{AllGood, good-cons}
-use Rattle.fields.proofs.Starts.{starts}
+use Rattle.fields.proofs.Starts.{starts-field}
 use Rattle.rows.proofs.Images.{length-of, image-of}
 use Rattle.overlaps.specs.Overlaps.{Overlaps}
 
@@ -21,7 +21,7 @@ row-some : (es : List Entry) → AllGood es → 0 < length es → 0 < length (ro
 unfolding rowOf
 row-some [] k h = absurd (omega arith)
 row-some (e ∷ es) (good-cons x k) h =
-    omega (arith, starts (e .bytes) (x .tag) (x .contents) [] (x .head) .long, length-append (e .bytes) (rowOf es))
+    omega (arith, starts-field (e .bytes) (x .tag) (x .contents) [] (x .head) .long, length-append (e .bytes) (rowOf es))
 
 good-drop : (n : ℕ) (es : List Entry) → AllGood es → AllGood (drop n es)
 good-drop zero es k = k

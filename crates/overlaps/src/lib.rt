@@ -4,36 +4,44 @@ ghost use mathlib.Core.Bool.{true};
 ghost use mathlib.Core.List.{_++_};
 ghost use Prim.Native.Nat.{_+_, _≤_};
 ghost use lib.ListN.{length, take};
+ghost use Rattle.registry.specs.Tags.{asBlock};
+ghost use Rattle.registry.specs.Limits.{mostRecords};
 ghost use Rattle.records.specs.Record.{rangeOf};
 ghost use Rattle.image.specs.Image.{startsRight, imageOf};
 ghost use Rattle.image.specs.Nest.{nestOf, nestIn};
-ghost use Rattle.image.specs.Place.{verdictOf};
+ghost use Rattle.image.specs.Checking.{verdictOf};
 ghost use Rattle.rows.specs.Entry.{rowOf};
 ghost use Rattle.merged.specs.Held.{parsedFrom, entriesAt, Recorded, Held};
 ghost use Rattle.overlaps.specs.Overlaps.{OpenBlocks, openLast, Overlaps};
-use address::numbers_at_most;
 use image::Nesting;
 use image::Verdict;
 use merged::record_at;
-use records::width_of;
+use registry::AS_BLOCK;
+use registry::MOST_COUNT;
+use registry::MOST_IMAGE;
+use registry::MOST_RECORDS;
+use registry::PerRecord;
+use registry::RANGE_OFFSET;
+use registry::width_of;
+use words::numbers_at_most;
 
 // The block r among the open blocks of its tag, the innermost last.
 fn nest<'a>(
     image: &'a [u8],
     changes: &'a [u8],
     r: &[u8],
-    stack: &[u32; 4096],
+    stack: &PerRecord,
     depth: usize,
 ) -> Nesting
-    requires { ⌜ (depth ≤ 4096) × Recorded (now r) × (parsedFrom (now r) .tag ≤ 18) × OpenBlocks (now image) (now changes) (now stack) depth (parsedFrom (now r) .tag) ⌝ }
+    requires { ⌜ (depth ≤ mostRecords) × Recorded (now r) × (parsedFrom (now r) .tag ≤ asBlock) × OpenBlocks (now image) (now changes) (now stack) depth (parsedFrom (now r) .tag) ⌝ }
     ensures { λ x. ⌜ x ≡ nestOf (openLast (now (image .entry)) (now (changes .entry)) (now (stack .entry))) (rangeOf (parsedFrom (now (r .entry)))) depth ⌝ }
 {
     let width = width_of(r[0]);
     let mut d = depth;
     while 0 < d {
         let open = record_at(image, changes, stack[d - 1]);
-        if numbers_at_most(r, 6, open, 6 + width, width) {
-            if numbers_at_most(r, 6 + width, open, 6 + width, width) {
+        if numbers_at_most(r, RANGE_OFFSET, open, RANGE_OFFSET + width, width) {
+            if numbers_at_most(r, RANGE_OFFSET + width, open, RANGE_OFFSET + width, width) {
                 return Nesting::Under(d);
             }
             return Nesting::Crossing;
@@ -48,15 +56,15 @@ fn nest_after<'a>(
     image: &'a [u8],
     changes: &'a [u8],
     r: &[u8],
-    stack: &[u32; 4096],
+    stack: &PerRecord,
     before: u8,
     depth: usize,
 ) -> Nesting
-    requires { ⌜ (depth ≤ 4096) × Recorded (now r)
-        × (before ≡ parsedFrom (now r) .tag → before ≤ 18 → OpenBlocks (now image) (now changes) (now stack) depth before) ⌝ }
+    requires { ⌜ (depth ≤ mostRecords) × Recorded (now r)
+        × (before ≡ parsedFrom (now r) .tag → before ≤ asBlock → OpenBlocks (now image) (now changes) (now stack) depth before) ⌝ }
     ensures { λ x. ⌜ x ≡ nestIn (openLast (now (image .entry)) (now (changes .entry)) (now (stack .entry))) before (parsedFrom (now (r .entry))) depth ⌝ }
 {
-    if 0x12 < r[0] {
+    if AS_BLOCK < r[0] {
         return Nesting::Under(0);
     }
     if r[0] != before {
@@ -73,19 +81,19 @@ fn first_overlap<'a>(
     count: usize,
     n: usize,
 ) -> usize
-    requires { ⌜ (length (now index) ≡ 9600) × (n ≤ 4096) × Held (now image) (now changes) (take count (now index)) × (n ≤ count) × (count ≤ 9600) ⌝ }
+    requires { ⌜ (length (now index) ≡ 9600) × (n ≤ mostRecords) × Held (now image) (now changes) (take count (now index)) × (n ≤ count) × (count ≤ 9600) ⌝ }
     ensures { λ r. ⌜ Overlaps (entriesAt (now (image .entry)) (now (changes .entry)) (take count (now (index .entry)))) n r ⌝ }
 {
-    let mut stack = [0u32; 4096];
+    let mut stack = [0u32; MOST_RECORDS];
     let mut depth: usize = 0;
     let mut family: u8 = 0;
     let mut i: usize = 0;
     while i < n {
-        let place = index[i];
-        let r = record_at(image, changes, place);
+        let start = index[i];
+        let r = record_at(image, changes, start);
         match nest_after(image, changes, r, &stack, family, depth) {
             Nesting::Under(d) => {
-                stack[d] = place;
+                stack[d] = start;
                 depth = d + 1;
                 family = r[0];
                 i += 1;
@@ -108,16 +116,16 @@ pub fn final_verdict<'a>(
         × (size ≡ 4 + length (rowOf (entriesAt (now image) (now changes) (take n (now index))))) ⌝ }
     ensures { λ r. ⌜ r ≡ verdictOf (imageOf (take 4 (now (image .entry)) ++ rowOf (entriesAt (now (image .entry)) (now (changes .entry)) (take n (now (index .entry)))))) ⌝ }
 {
-    if 262144 < size {
+    if MOST_IMAGE < size {
         return Verdict::Defective(1, 0);
     }
-    let few = if n < 4096 { n } else { 4096 };
+    let few = if n < MOST_RECORDS { n } else { MOST_RECORDS };
     let k = first_overlap(image, changes, index, n, few);
     if k < few {
         return Verdict::Defective(7, k as u32);
     }
-    if 4096 < n {
-        return Verdict::Defective(3, 4096);
+    if MOST_RECORDS < n {
+        return Verdict::Defective(3, MOST_COUNT);
     }
     Verdict::Sound(n as u32)
 }

@@ -1,3 +1,3 @@
 pub mod Path
-pub mod Places
+pub mod Positions
 pub mod Computing

@@ -6,8 +6,8 @@ use Prim.Native.Nat.{ℕ, _+_, _≤_, _<_}
 use Prim.Native.Char.{code}
 use lib.ListN.{length, drop}
 use lib.Seq.{length-take-le}
-use Rattle.pieces.specs.Split.{split, FirstPiece}
-use Rattle.pieces.proofs.Pieces.{split-cons}
+use Rattle.octets.specs.Split.{split, FirstPiece}
+use Rattle.octets.proofs.Pieces.{split-cons}
 use Rattle.pattern.specs.Pattern.{isSuffix, formOf}
 use Rattle.pattern.specs.declared.Form.the-variants.{Exact, Asterisk, Unsupported}
 

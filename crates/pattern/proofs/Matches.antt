@@ -7,9 +7,9 @@ use Prim.Native.Char.{code}
 use native.Mathlib.Omega.{arith}
 use lib.ListN.{length, take, drop}
 use borrow.Author.Tests.{le-leb, lt-leb}
-use Rattle.address.specs.Lists.{contains}
-use Rattle.pieces.proofs.Pieces.{rest-is}
-use Rattle.name.specs.Compare.{alike}
+use Rattle.octets.specs.Lists.{contains}
+use Rattle.octets.proofs.Pieces.{rest-is}
+use Rattle.texts.specs.Compare.{alike}
 use Rattle.pattern.specs.Pattern.{matches}
 
 -- the bytes of n from a to b

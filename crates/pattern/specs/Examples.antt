@@ -3,8 +3,8 @@ use Prim.Native.String.{String}
 use mathlib.Core.Path.{_≡_, refl}
 use mathlib.Core.List.{List, [], _∷_, map}
 use mathlib.Core.Bool.{Bool, true, false}
-use Rattle.pieces.specs.Ascii.{ascii}
-use Rattle.name.specs.declared.Text.the-variants.{Host}
+use Rattle.octets.specs.Ascii.{ascii}
+use Rattle.registry.specs.declared.Text.the-variants.{Host}
 use Rattle.pattern.specs.Pattern.{patternOf, matchesForm}
 use Rattle.pattern.specs.Computing.{computing}
 

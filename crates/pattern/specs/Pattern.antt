@@ -5,12 +5,13 @@ use mathlib.Core.List.{List, [], _∷_}
 use mathlib.Core.Bool.{Bool, true, false, cond, not, _&&_, _||_}
 use lib.Dec.{eqb, leb, ltb}
 use lib.ListN.{length, getD, take, drop}
-use Rattle.address.specs.Lists.{within, every, contains}
-use Rattle.pieces.specs.Split.{split}
-use Rattle.name.specs.Host.{isLabelByte}
-use Rattle.name.specs.Compare.{alike}
-use Rattle.name.specs.declared.Text.{Text}
-use Rattle.name.specs.declared.Text.the-variants.{Handle, Name, Host}
+use Rattle.registry.specs.Limits.{mostHost}
+use Rattle.octets.specs.Lists.{within, every, contains}
+use Rattle.octets.specs.Split.{split}
+use Rattle.texts.specs.Host.{isLabelByte}
+use Rattle.texts.specs.Compare.{alike}
+use Rattle.registry.specs.declared.Text.{Text}
+use Rattle.registry.specs.declared.Text.the-variants.{Handle, Name, Host}
 use Rattle.pattern.specs.declared.Form.{Form}
 use Rattle.pattern.specs.declared.Form.the-variants.{Exact, Asterisk, Unsupported, Malformed}
 
@@ -23,7 +24,7 @@ isHost Host = true
 abbrev pub longest : Text → ℕ
 longest Handle = 64
 longest Name = 64
-longest Host = 253
+longest Host = mostHost
 
 -- S9.1: the field's characters or asterisks; host-name patterns may hold letters, digits, hyphen, dot, asterisk.
 unfoldable pub patternByte : Text → ℕ → Bool

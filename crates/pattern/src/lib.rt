@@ -1,11 +1,12 @@
 // Patterns: read, and matched against handles, names and host names.
-use name::Text;
+use registry::Text;
 ghost use mathlib.Core.Path.{_≡_};
-ghost use Rattle.pieces.specs.Ascii.{code};
-ghost use Rattle.address.specs.Lists.{every};
-ghost use Rattle.pieces.specs.Split.{split};
-ghost use Rattle.name.specs.Host.{isLabelByte};
+ghost use Rattle.octets.specs.Ascii.{code};
+ghost use Rattle.octets.specs.Lists.{every};
+ghost use Rattle.octets.specs.Split.{split};
+ghost use Rattle.texts.specs.Host.{isLabelByte};
 ghost use Rattle.pattern.specs.Pattern.{isHost, longest, patternByte, isPattern, isSuffix, formOf, patternOf, matches, matchesForm, foldsCase};
+use registry::MOST_HOST;
 
 // What a pattern's asterisks make of it: none, or one that is supported, at this place; and the two refusals, reason 7 and reason 6.
 pub enum Form {
@@ -43,7 +44,7 @@ fn longest_pattern(text: Text) -> usize
     match text {
         Text::Handle => 64,
         Text::Name => 64,
-        Text::Host => 253,
+        Text::Host => MOST_HOST,
     }
 }
 
@@ -152,11 +153,11 @@ pub fn pattern_matches(fold: bool, prefix: &[u8], suffix: &[u8], name: &[u8]) ->
     if n - p < q {
         return false;
     }
-    if !name::same(fold, prefix, &name[..p]) {
+    if !texts::same(fold, prefix, &name[..p]) {
         return false;
     }
     let at = n - q;
-    if !name::same(fold, suffix, &name[at..]) {
+    if !texts::same(fold, suffix, &name[at..]) {
         return false;
     }
     if q == 0 {
@@ -170,7 +171,7 @@ pub fn form_matches(fold: bool, form: Form, pattern: &[u8], name: &[u8]) -> bool
     ensures { λ r. ⌜ r ≡ matchesForm fold form (now (pattern .entry)) (now (name .entry)) ⌝ }
 {
     match form {
-        Form::Exact => name::same(fold, pattern, name),
+        Form::Exact => texts::same(fold, pattern, name),
         Form::Asterisk(at) => {
             if at < pattern.len() {
                 pattern_matches(fold, &pattern[..at], &pattern[at + 1..], name)

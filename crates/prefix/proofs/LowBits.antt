@@ -9,11 +9,11 @@ use borrow.Author.Tests.{eq-eqb, ne-eqb}
 use lib.ListN.{length, getD, take, drop, set, length-drop}
 use lib.Pow.{pow-add, pow-pos, suc-ones, shr-lt, split, high, mod-pow-add, mod-mod-pow}
 use lib.Seq.{split-at, set-split, getD-drop}
-use Rattle.address.specs.Lists.{found}
-use Rattle.address.specs.Number.{value, valueFrom, Bytes}
+use Rattle.octets.specs.Lists.{found}
+use Rattle.octets.specs.Number.{value, valueFrom, Bytes}
 use Rattle.prefix.specs.Prefix.{prefixRange}
 use Rattle.address.specs.Ranges.{Range}
-use Rattle.address.proofs.Digits.{append-from, value-after, value-below}
+use Rattle.octets.proofs.Digits.{append-from, value-after, value-below}
 
 value-around : (s : List ℕ) (b : ℕ) (t : List ℕ) → value (s ++ b ∷ t) ≡ (value s * 256 + b) * 2 ^ (8 * length t) + value t
 unfolding valueFrom value

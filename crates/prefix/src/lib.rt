@@ -1,18 +1,18 @@
 // The range of a prefix, at every width up to sixteen bytes.
 ghost use mathlib.Core.Path.{_≡_};
 ghost use Prim.Native.Nat.{_≤_, _<_, min};
-ghost use Rattle.address.specs.Lists.{found};
+ghost use Rattle.octets.specs.Lists.{found};
 ghost use Rattle.address.specs.Address.{number, numbers};
 ghost use Rattle.prefix.specs.Prefix.{prefixRange};
 use address::Address;
-use address::Range;
-use address::power_of_two;
-use address::wide;
+use address::AddressRange;
+use words::power_of_two;
+use words::wide;
 
 // The range of a prefix, where ok says that there is one.
 pub struct Prefix {
     pub ok: bool,
-    pub range: Range,
+    pub range: AddressRange,
 }
 
 // How many of n bits the next byte has.
@@ -38,7 +38,7 @@ pub fn prefix_range(first: Address, bits: u32, l: u32) -> Prefix
         if b % size != 0 {
             return Prefix {
                 ok: false,
-                range: Range { first, last: first },
+                range: AddressRange { first, last: first },
             };
         }
         last[i] = (b + (size - 1)) as u8;
@@ -46,7 +46,7 @@ pub fn prefix_range(first: Address, bits: u32, l: u32) -> Prefix
     }
     Prefix {
         ok: true,
-        range: Range {
+        range: AddressRange {
             first,
             last: Address { bytes: last },
         },

@@ -5,9 +5,9 @@ use mathlib.Core.List.{List, [], _∷_, _++_, append-assoc, append-nil}
 use native.Mathlib.Omega.{arith}
 use native.Mathlib.Nat.{pow-suc, mod-lt}
 use lib.ListN.{length, take, getD, length-append}
-use Rattle.address.specs.Number.{value, valueFrom, Bytes}
-use Rattle.address.proofs.Below.{digits-none, digits-cons, digits-append}
-use Rattle.address.proofs.Digits.{append-from}
+use Rattle.octets.specs.Number.{value, valueFrom, Bytes}
+use Rattle.octets.proofs.Below.{digits-none, digits-cons, digits-append}
+use Rattle.octets.proofs.Digits.{append-from}
 use Rattle.prefix_bytes.specs.Entry.{bigEndian, BytesReadBack}
 use Rattle.prefix_bytes.specs.Words.{wordBytes}
 

@@ -5,7 +5,7 @@ use mathlib.Core.List.{List, [], _∷_}
 use native.Mathlib.Omega.{arith}
 use native.Mathlib.Decide.{ℕ-discrete}
 use lib.ListN.{length, length-append}
-use Rattle.address.specs.Positions.{Wide}
+use Rattle.octets.specs.Positions.{Wide}
 use Rattle.cidr.specs.Prefixes.{Prefix}
 use Rattle.prefix_bytes.specs.Entry.{bigEndian, entryOf, entriesOf}
 use Rattle.prefix_bytes.proofs.Bytes.{length-bytes}

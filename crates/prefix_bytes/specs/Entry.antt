@@ -2,7 +2,7 @@
 use Prim.Native.Nat.{ℕ, zero, suc, _-_, _*_, _/_, _%_, _^_, _<_}
 use mathlib.Core.Path.{_≡_}
 use mathlib.Core.List.{List, [], _∷_, _++_}
-use Rattle.address.specs.Number.{value}
+use Rattle.octets.specs.Number.{value}
 use Rattle.cidr.specs.Prefixes.{Prefix}
 
 -- the n low bytes of a number, high byte first

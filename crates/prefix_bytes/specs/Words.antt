@@ -1,8 +1,8 @@
 -- Serves contracts and proofs. The address of an entry in words, as the code writes it.
 use Prim.Native.Nat.{ℕ, _*_, _^_, _≤_, _<_}
 use mathlib.Core.List.{List, [], _∷_, _++_}
-use Rattle.address.specs.Positions.{Wide}
-use Rattle.address.specs.declared.Words.{Words}
+use Rattle.octets.specs.Positions.{Wide}
+use Rattle.octets.specs.declared.Words.{Words}
 use Rattle.prefix_bytes.specs.Entry.{bigEndian}
 
 abbrev pub wordsOf : Words → List ℕ

@@ -2,13 +2,13 @@
 ghost use mathlib.Core.Path.{_≡_};
 ghost use Prim.Native.Nat.{_+_, _*_, _^_, _≤_, _<_};
 ghost use lib.ListN.{length, getD, take};
-ghost use Rattle.address.specs.Positions.{Wide};
-ghost use Rattle.address.specs.Words.{numberOf};
-ghost use Rattle.listing.specs.Writing.{Written};
+ghost use Rattle.octets.specs.Positions.{Wide};
+ghost use Rattle.octets.specs.Words.{numberOf};
+ghost use Rattle.output.specs.Writing.{Written};
 ghost use Rattle.cidr.specs.Prefixes.{prefix};
 ghost use Rattle.prefix_bytes.specs.Entry.{bigEndian, entryOf};
 ghost use Rattle.prefix_bytes.specs.Words.{wordsOf, wordBytes, EntryFits};
-use address::Words;
+use octets::Words;
 
 // Four bytes of a number, high byte first.
 fn put4(v: u64, out: &mut [u8])

@@ -9,20 +9,20 @@ use borrow.Author.Tests.{le-leb, lt-leb, eq-eqb, ne-eqb, eqb-true}
 use lib.Dec.{eqb}
 use lib.ListN.{length, take, drop, length-drop}
 use lib.Seq.{take-all, getD-drop}
-use Rattle.address.specs.Number.{value, Bytes}
-use Rattle.address.specs.Positions.{Wide, numberIn}
+use Rattle.octets.specs.Number.{value, Bytes}
+use Rattle.octets.specs.Positions.{Wide, numberIn}
 use Rattle.address.specs.Ranges.{rangeFrom, wellFormed}
-use Rattle.address.specs.Words.{numberOf}
-use Rattle.address.specs.declared.Words.{Words}
-use Rattle.address.proofs.Digits.{part-is, value-below}
+use Rattle.octets.specs.Words.{numberOf}
+use Rattle.octets.specs.declared.Words.{Words}
+use Rattle.octets.proofs.Digits.{part-is, value-below}
 use Rattle.cidr.specs.Shortest.{Shortest}
 use Rattle.cidr.proofs.Theorem.{shortest}
-use Rattle.listing.specs.declared.Counted.{Counted}
-use Rattle.listing.specs.Writing.{ifRoom, counted, countedOf}
+use Rattle.output.specs.declared.Counted.{Counted}
+use Rattle.output.specs.Writing.{ifRoom, counted, countedOf}
 use Rattle.prefix_bytes.specs.Entry.{entriesOf}
 use Rattle.prefixes.specs.Call.{IpRange, ipRange, ipRangeOf, prefixesIn, entriesIn, prefixedOf, bufferAfter}
 use Rattle.prefixes.specs.Answers.{AnswersShortest}
-use Rattle.next_prefix.specs.Walked.{between, walked}
+use Rattle.next_prefix.specs.Walked.{wordsRange, walked}
 use Rattle.prefixes.specs.Entries.{Ordered}
 use Rattle.prefix_bytes.proofs.Widths.{by-width}
 use Rattle.prefixes.proofs.Room.{at-width}
@@ -55,7 +55,7 @@ module _ (s : List ℕ) (width : ℕ) (long : length s ≡ 2 * width) where
     unfolding ipRange wellFormed
     no-range h = rw (first-is, last-is, lt-leb (numberOf first) (numberOf last) h)
 
-    a-range : numberOf first ≤ numberOf last → ipRange width s ≡ some (record { width = width; range = between first last })
+    a-range : numberOf first ≤ numberOf last → ipRange width s ≡ some (record { width = width; range = wordsRange first last })
     unfolding ipRange wellFormed
     a-range h = rw (first-is, last-is, le-leb (numberOf first) (numberOf last) h)
 

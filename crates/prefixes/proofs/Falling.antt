@@ -6,9 +6,9 @@ use native.Mathlib.Decide.{decLt}
 use native.Mathlib.Omega.{arith}
 use lib.ListN.{length}
 use lib.Pow.{pow-mono, pow-pos}
-use Rattle.address.specs.Positions.{Wide}
-use Rattle.address.specs.Words.{numberOf}
-use Rattle.address.specs.declared.Words.{Words}
+use Rattle.octets.specs.Positions.{Wide}
+use Rattle.octets.specs.Words.{numberOf}
+use Rattle.octets.specs.declared.Words.{Words}
 use Rattle.cidr.specs.Prefixes.{prefix, from-to, prefixesOf}
 use Rattle.cidr.specs.First.{Largest, Capped, Top}
 use Rattle.cidr.proofs.Multiples.{Multiple, sum, itself, finer, near, of-remainder, to-remainder}

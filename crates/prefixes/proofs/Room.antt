@@ -8,13 +8,13 @@ use native.Mathlib.Nat.{mul-le-mul-right}
 use borrow.Author.Tests.{lt-ltb, le-ltb, ltb-true, ltb-false}
 use lib.Dec.{ltb}
 use lib.ListN.{length}
-use Rattle.address.specs.Positions.{Wide}
-use Rattle.address.specs.declared.Words.{Words}
+use Rattle.octets.specs.Positions.{Wide}
+use Rattle.octets.specs.declared.Words.{Words}
 use Rattle.cidr.specs.Prefixes.{Prefix, prefixesOf}
 use Rattle.cidr.proofs.Greedy.{wider}
 use Rattle.cidr.proofs.Theorem.{shortest}
 use Rattle.prefix_bytes.specs.Entry.{entriesOf}
-use Rattle.next_prefix.specs.Walked.{between, walked}
+use Rattle.next_prefix.specs.Walked.{wordsRange, walked}
 use Rattle.prefixes.specs.Entries.{Ordered, fitOf}
 use Rattle.prefixes.specs.declared.Fit.the-variants.{Enough, Short}
 use Rattle.prefix_bytes.proofs.Widths.{by-width, at-most-sixteen, length-entries}
@@ -24,13 +24,13 @@ room-fits w = by-width w (λ (k : ℕ). (16 * k - 2) * (k + 1) < 184467440737095
 
 module _ {width : ℕ} {first last : Words} (o : Ordered width first last) where
   -- the code walks at 128 bits
-  pub at-width : prefixesOf (8 * width) (between first last) ≡ walked first last
+  pub at-width : prefixesOf (8 * width) (wordsRange first last) ≡ walked first last
   at-width =
       let e : 128 - 8 * width + 8 * width ≡ 128 = omega (arith, at-most-sixteen (o .wide)) in
-      sym (wider (between first last) (8 * width) (128 - 8 * width) (o .below)) ∙ rw e
+      sym (wider (wordsRange first last) (8 * width) (128 - 8 * width) (o .below)) ∙ rw e
 
   pub few : length (walked first last) ≤ 16 * width - 2
-  few = omega (arith, rw at-width at (shortest (8 * width) (between first last) (o .below) .few (omega (arith, o .wide .0))))
+  few = omega (arith, rw at-width at (shortest (8 * width) (wordsRange first last) (o .below) .few (omega (arith, o .wide .0))))
 
   -- counted
   module _ {n : ℕ} (counted : n ≡ length (walked first last)) where

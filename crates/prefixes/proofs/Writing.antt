@@ -7,9 +7,9 @@ use native.Mathlib.Decide.{decLe}
 use borrow.Rule.Slice.PartMut.{putMid}
 use lib.ListN.{length, take, drop}
 use lib.Pow.{pow-mono, pow-pos}
-use Rattle.address.specs.Positions.{Wide}
-use Rattle.listing.specs.Writing.{Written}
-use Rattle.listing.proofs.Writing.{Parted, written-over, over-written, at-start, part-fits, next-part, last-part, at-end}
+use Rattle.octets.specs.Positions.{Wide}
+use Rattle.output.specs.Writing.{Written}
+use Rattle.output.proofs.Writing.{Parted, written-over, over-written, at-start, part-fits, next-part, last-part, at-end}
 use Rattle.cidr.specs.Prefixes.{Prefix, from-to}
 use Rattle.cidr.specs.First.{Largest}
 use Rattle.prefix_bytes.specs.Entry.{entryOf, entriesOf}

@@ -3,7 +3,7 @@ use Prim.Native.Nat.{ℕ, _*_}
 use mathlib.Core.Option.{some}
 use mathlib.Core.Path.{_≡_}
 use mathlib.Core.List.{List}
-use Rattle.address.specs.Number.{Bytes}
+use Rattle.octets.specs.Number.{Bytes}
 use Rattle.cidr.specs.Shortest.{Shortest}
 use Rattle.prefixes.specs.Call.{IpRange, ipRangeOf, prefixesIn}
 

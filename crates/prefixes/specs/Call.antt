@@ -8,8 +8,8 @@ use lib.ListN.{length}
 use Rattle.address.specs.Ranges.{Range, rangeFrom, wellFormed}
 use Rattle.cidr.specs.Prefixes.{Prefix, prefixesOf}
 use Rattle.prefix_bytes.specs.Entry.{entriesOf}
-use Rattle.listing.specs.declared.Counted.{Counted}
-use Rattle.listing.specs.Writing.{ifRoom, counted, countedOf}
+use Rattle.output.specs.declared.Counted.{Counted}
+use Rattle.output.specs.Writing.{ifRoom, counted, countedOf}
 
 -- A range of addresses of so many bytes: 4 for IPv4, 16 for IPv6.
 pub record IpRange : Type 0 where

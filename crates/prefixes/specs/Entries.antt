@@ -5,12 +5,12 @@ use mathlib.Core.Path.{_≡_}
 use mathlib.Core.List.{List}
 use lib.Dec.{ltb}
 use lib.ListN.{length}
-use Rattle.address.specs.Positions.{Wide}
-use Rattle.address.specs.Words.{numberOf}
-use Rattle.address.specs.declared.Words.{Words}
-use Rattle.listing.specs.Writing.{over, Reached}
+use Rattle.octets.specs.Positions.{Wide}
+use Rattle.octets.specs.Words.{numberOf}
+use Rattle.octets.specs.declared.Words.{Words}
+use Rattle.output.specs.Writing.{over, Reached}
 use Rattle.cidr.specs.First.{Capped}
-use Rattle.next_prefix.specs.Walked.{between, walked}
+use Rattle.next_prefix.specs.Walked.{wordsRange, walked}
 use Rattle.cidr.specs.Prefixes.{Prefix, from-to, prefixesOf}
 use Rattle.prefix_bytes.specs.Entry.{entriesOf}
 use Rattle.prefixes.specs.declared.Stop.{Stop}
@@ -37,7 +37,7 @@ pub record Entered (width : ℕ) (all rest : List Prefix) (before after : List �
 pub record Climbed (width : ℕ) (first last : Words) (before after : List ℕ) (r : Stop) : Type 0 where
   pub entered : Entered width (walked first last) (walked (r .start) last) before after (r .at) (r .n)
   pub forward : numberOf (r .start) ≤ numberOf last
-  pub capped : Capped (between (r .start) last)
+  pub capped : Capped (wordsRange (r .start) last)
 
 -- the prefixes of so many addresses from first on
 abbrev pub fallen : Words → Words → List Prefix

@@ -3,7 +3,7 @@ use Prim.Native.Nat.{ℕ}
 use mathlib.Core.Path.{_≡_, refl}
 use mathlib.Core.List.{List, [], _∷_, _++_, map}
 use lib.ListN.{length, replicate}
-use Rattle.listing.specs.declared.Counted.{Counted}
+use Rattle.output.specs.declared.Counted.{Counted}
 use Rattle.prefixes.specs.Call.{ipRangeOf, prefixedOf, bufferAfter}
 use Rattle.prefixes.specs.Computing.{computing}
 

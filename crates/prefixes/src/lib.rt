@@ -2,16 +2,12 @@
 ghost use mathlib.Core.Path.{_≡_};
 ghost use Prim.Native.Nat.{_*_, _≤_};
 ghost use lib.ListN.{length};
-ghost use Rattle.address.specs.Positions.{Wide};
+ghost use Rattle.octets.specs.Positions.{Wide};
 ghost use Rattle.cidr.specs.First.{Capped};
-ghost use Rattle.next_prefix.specs.Walked.{between, walked};
+ghost use Rattle.next_prefix.specs.Walked.{wordsRange, walked};
 ghost use Rattle.prefix_bytes.specs.Entry.{entriesOf};
 ghost use Rattle.prefixes.specs.Call.{ipRange, ipRangeOf, prefixedOf, bufferAfter};
 ghost use Rattle.prefixes.specs.Entries.{Ordered, Listed, Climbed, fallen, Falling, fitOf};
-use address::Words;
-use address::words_at;
-use address::words_at_most;
-use listing::Counted;
 use next_prefix::after;
 use next_prefix::cap;
 use next_prefix::count;
@@ -20,7 +16,11 @@ use next_prefix::last_of;
 use next_prefix::remaining;
 use next_prefix::split_top;
 use next_prefix::trailing_zeros;
+use octets::Words;
+use output::Counted;
 use prefix_bytes::put_entry;
+use words::words_at;
+use words::words_at_most;
 
 // Whether the entries fit in a buffer; if they do not, how many there are.
 enum Fit {
@@ -79,7 +79,7 @@ fn fall(first: Words, number: Words, width: usize, out: &mut [u8]) -> u32
 
 // Writes the entries of the others, for which what remains decides. Gives how many there are.
 fn descend(first: Words, last: Words, width: usize, out: &mut [u8]) -> u32
-    requires { ⌜ Ordered width first last × Capped (between first last) × (length (entriesOf width (walked first last)) ≤ length (now out)) ⌝ }
+    requires { ⌜ Ordered width first last × Capped (wordsRange first last) × (length (entriesOf width (walked first last)) ≤ length (now out)) ⌝ }
     ensures { λ r. ⌜ Listed width (walked first last) (now (out .entry)) (now (out .exit)) r ⌝ }
 {
     let free = cap(remaining(first, last));

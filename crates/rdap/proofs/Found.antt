@@ -4,16 +4,17 @@ use mathlib.Core.List.{List}
 use mathlib.Core.Logic.{_↔_, Iff·trans}
 use mathlib.Core.Path.{_≡_}
 use lib.Dec.{T}
-use Rattle.address.specs.Lists.{_∈_}
+use Rattle.registry.specs.Tags.{isBlock}
+use Rattle.octets.specs.Lists.{_∈_}
 use Rattle.address.specs.Ranges.{strictlyCovers}
-use Rattle.records.specs.Record.{Record, isBlock}
+use Rattle.records.specs.Record.{Record}
 use Rattle.image.specs.Image.{sound, imageOf}
-use Rattle.blocks.specs.Blocks.{Block, blocksOf}
-use Rattle.blocks.specs.Found.{NoBlock, Found}
-use Rattle.blocks.proofs.Families.{family-accepted}
-use Rattle.blocks.proofs.Found as Blocks
+use Rattle.forest.specs.Blocks.{Block, blocksOf}
+use Rattle.forest.specs.Found.{NoBlock, Found}
+use Rattle.forest.proofs.Families.{family-accepted}
+use Rattle.forest.proofs.Found as Blocks
 use Rattle.relations.specs.Finding.{foundIn}
-use Rattle.query.specs.declared.Relation.the-variants.{Up, Top}
+use Rattle.registry.specs.declared.Relation.the-variants.{Up, Top}
 use Rattle.calls.specs.Calls.{relationOf}
 use Rattle.rdap.specs.Found.{ImageFound}
 use Rattle.rdap.proofs.Forest.{forest}
@@ -22,15 +23,15 @@ module _ (image : List ℕ) (records : List Record) (e : imageOf image ≡ sound
   families : (family : ℕ) → T (isBlock family) → Found (blocksOf family records)
   families family known = Blocks.found (blocksOf family records) (family-accepted family known image records e)
 
-  module _ (family : ℕ) (b : Block) (places : ℕ) (known : T (isBlock family)) (m : b ∈ blocksOf family records) where
-    third-up-missing : (relationOf image (b .number) Up places .reason ≡ 8) ↔ NoBlock (λ r. strictlyCovers r (b .range)) (blocksOf family records)
+  module _ (family : ℕ) (b : Block) (room : ℕ) (known : T (isBlock family)) (m : b ∈ blocksOf family records) where
+    third-up-missing : (relationOf image (b .number) Up room .reason ≡ 8) ↔ NoBlock (λ r. strictlyCovers r (b .range)) (blocksOf family records)
     third-up-missing =
-        Iff·trans (forest image records e .next-answer Up (b .number) places .ends)
+        Iff·trans (forest image records e .next-answer Up (b .number) room .ends)
         (rw (forest image records e .families family known .by-number b m .0) (families family known .up-none (b .range)))
 
-    third-top-missing : (relationOf image (b .number) Top places .reason ≡ 8) ↔ NoBlock (λ r. strictlyCovers r (b .range)) (blocksOf family records)
+    third-top-missing : (relationOf image (b .number) Top room .reason ≡ 8) ↔ NoBlock (λ r. strictlyCovers r (b .range)) (blocksOf family records)
     third-top-missing =
-        Iff·trans (forest image records e .next-answer Top (b .number) places .ends)
+        Iff·trans (forest image records e .next-answer Top (b .number) room .ends)
         (rw (forest image records e .families family known .by-number b m .2) (families family known .top-none (b .range)))
 
 -- What is found, and 404 exactly, for every accepted image.
@@ -39,14 +40,14 @@ unfolding foundIn
 found image records e =
     record {
       families = families image records e;
-      lookup-missing = λ path kind target places p.
-          let a = forest image records e .lookup-answer path kind target places p in
+      lookup-missing = λ path kind target room p.
+          let a = forest image records e .lookup-answer path kind target room p in
           Iff·trans (a .tells .ends) (families image records e (target .family) (a .family) .lookup-none (target .range));
-      up-missing = λ path target places p.
-          let a = forest image records e .first-answer path Up target places p in
+      up-missing = λ path target room p.
+          let a = forest image records e .first-answer path Up target room p in
           Iff·trans (a .tells .ends) (families image records e (target .family) (a .family) .up-none (target .range));
-      top-missing = λ path target places p.
-          let a = forest image records e .first-answer path Top target places p in
+      top-missing = λ path target room p.
+          let a = forest image records e .first-answer path Top target room p in
           Iff·trans (a .tells .ends) (families image records e (target .family) (a .family) .top-none (target .range));
       third-up-missing = third-up-missing image records e;
       third-top-missing = third-top-missing image records e;

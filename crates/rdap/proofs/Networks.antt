@@ -6,17 +6,18 @@ use mathlib.Core.List.{List}
 use native.Mathlib.Omega.{arith}
 use lib.Dec.{leb, leb→le, T}
 use lib.ListN.{length, length-drop}
-use Rattle.address.specs.Lists.{within}
-use Rattle.address.proofs.Tests.{T-and}
-use Rattle.records.specs.Record.{Record, widthOf, rangeOf}
+use Rattle.registry.specs.Tags.{widthOf}
+use Rattle.octets.specs.Lists.{within}
+use Rattle.octets.proofs.Tests.{T-and}
+use Rattle.records.specs.Record.{Record, rangeOf}
 use Rattle.records.proofs.Accepted.{first-last}
 use Rattle.image.specs.Image.{imageOf}
 use Rattle.image.specs.Part.{recordsOf}
 use Rattle.image.specs.Index.{tagOf, Standing}
-use Rattle.image.specs.declared.Which.the-variants.{Range}
+use Rattle.registry.specs.declared.Part.the-variants.{Range}
 use Rattle.image.proofs.Addresses.{wide-family}
 use Rattle.entries.proofs.Standing.{standing, range-length}
-use Rattle.blocks.proofs.Families.{BlockRecord, block-record}
+use Rattle.forest.proofs.Families.{BlockRecord, block-record}
 use Rattle.prefixes.specs.Call.{ipRangeOf}
 use Rattle.prefixes.proofs.Answers.{a-network}
 use Rattle.calls.specs.Calls.{partOf}
@@ -37,16 +38,16 @@ pub network-range : NetworkRange
 network-range image records e family ip b m = go (block-record family 0 records m)
   where
     go : BlockRecord family 0 records b → ipRangeOf (partOf image (b .number) Range) ≡ some (record { width = widthOf family; range = b .range })
-    go s = rw (place, s .ranged, same) (its-range image (s .place) family k (ap (λ (r : Record). r .tag) (sym same) ∙ s .tagged) ip)
+    go s = rw (skipped, s .ranged, same) (its-range image (s .skipped) family k (ap (λ (r : Record). r .tag) (sym same) ∙ s .tagged) ip)
       where
-        place : b .number ≡ s .place
-        place = let h = s .numbered in omega arith
+        skipped : b .number ≡ s .skipped
+        skipped = let h = s .numbered in omega arith
 
-        inside : s .place < length (recordsOf (imageOf image))
-        inside = rw e (omega (arith, ap length (s .stands), length-drop (s .place) records))
+        inside : s .skipped < length (recordsOf (imageOf image))
+        inside = rw e (omega (arith, ap length (s .stands), length-drop (s .skipped) records))
 
-        k : Standing image (s .place)
-        k = standing image (s .place) inside
+        k : Standing image (s .skipped)
+        k = standing image (s .skipped) inside
 
         same : s .first ≡ k .r
         same = let f = sym (s .stands) ∙ (rw e at (k .here)) in cc

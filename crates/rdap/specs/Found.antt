@@ -4,12 +4,13 @@ use mathlib.Core.List.{List}
 use mathlib.Core.Logic.{_↔_}
 use mathlib.Core.Path.{_≡_}
 use lib.Dec.{T}
-use Rattle.address.specs.Lists.{_∈_}
+use Rattle.registry.specs.Tags.{isBlock}
+use Rattle.octets.specs.Lists.{_∈_}
 use Rattle.address.specs.Ranges.{covers, strictlyCovers}
-use Rattle.records.specs.Record.{Record, isBlock}
-use Rattle.blocks.specs.Blocks.{Block, blocksOf}
-use Rattle.blocks.specs.Found.{NoBlock, Found}
-use Rattle.query.specs.declared.Relation.the-variants.{Up, Top}
+use Rattle.records.specs.Record.{Record}
+use Rattle.forest.specs.Blocks.{Block, blocksOf}
+use Rattle.forest.specs.Found.{NoBlock, Found}
+use Rattle.registry.specs.declared.Relation.the-variants.{Up, Top}
 use Rattle.query.specs.declared.Kind.{Kind}
 use Rattle.segment.specs.Target.{Target}
 use Rattle.query.specs.Query.{blockLookup, blockRelation}
@@ -21,19 +22,19 @@ pub record ImageFound (image : List ℕ) (records : List Record) : Type 0 where
   pub families : (family : ℕ) → T (isBlock family) → Found (blocksOf family records)
   -- A path that asks a lookup is answered by reason 8 exactly if no block of the family covers the range.
   pub lookup-missing :
-      (path : List ℕ) (kind : Kind) (target : Target) (places : ℕ) → PathAsks path (blockLookup kind target)
-      → (answerOf path image places .reason ≡ 8) ↔ NoBlock (λ r. covers r (target .range)) (blocksOf (target .family) records)
+      (path : List ℕ) (kind : Kind) (target : Target) (room : ℕ) → PathAsks path (blockLookup kind target)
+      → (answerOf path image room .reason ≡ 8) ↔ NoBlock (λ r. covers r (target .range)) (blocksOf (target .family) records)
   -- A path that asks up or top, exactly if no block of the family strictly covers the range.
   pub up-missing :
-      (path : List ℕ) (target : Target) (places : ℕ) → PathAsks path (blockRelation Up target)
-      → (answerOf path image places .reason ≡ 8) ↔ NoBlock (λ r. strictlyCovers r (target .range)) (blocksOf (target .family) records)
+      (path : List ℕ) (target : Target) (room : ℕ) → PathAsks path (blockRelation Up target)
+      → (answerOf path image room .reason ≡ 8) ↔ NoBlock (λ r. strictlyCovers r (target .range)) (blocksOf (target .family) records)
   pub top-missing :
-      (path : List ℕ) (target : Target) (places : ℕ) → PathAsks path (blockRelation Top target)
-      → (answerOf path image places .reason ≡ 8) ↔ NoBlock (λ r. strictlyCovers r (target .range)) (blocksOf (target .family) records)
+      (path : List ℕ) (target : Target) (room : ℕ) → PathAsks path (blockRelation Top target)
+      → (answerOf path image room .reason ≡ 8) ↔ NoBlock (λ r. strictlyCovers r (target .range)) (blocksOf (target .family) records)
   -- The third call, for the record number of a block: exactly if no block strictly covers that block's range.
   pub third-up-missing :
-      (family : ℕ) (b : Block) (places : ℕ) → T (isBlock family) → b ∈ blocksOf family records
-      → (relationOf image (b .number) Up places .reason ≡ 8) ↔ NoBlock (λ r. strictlyCovers r (b .range)) (blocksOf family records)
+      (family : ℕ) (b : Block) (room : ℕ) → T (isBlock family) → b ∈ blocksOf family records
+      → (relationOf image (b .number) Up room .reason ≡ 8) ↔ NoBlock (λ r. strictlyCovers r (b .range)) (blocksOf family records)
   pub third-top-missing :
-      (family : ℕ) (b : Block) (places : ℕ) → T (isBlock family) → b ∈ blocksOf family records
-      → (relationOf image (b .number) Top places .reason ≡ 8) ↔ NoBlock (λ r. strictlyCovers r (b .range)) (blocksOf family records)
+      (family : ℕ) (b : Block) (room : ℕ) → T (isBlock family) → b ∈ blocksOf family records
+      → (relationOf image (b .number) Top room .reason ≡ 8) ↔ NoBlock (λ r. strictlyCovers r (b .range)) (blocksOf family records)

@@ -4,11 +4,12 @@ use mathlib.Core.Option.{some}
 use mathlib.Core.Path.{_≡_}
 use mathlib.Core.List.{List}
 use lib.Dec.{T}
-use Rattle.address.specs.Lists.{_∈_, within}
-use Rattle.records.specs.Record.{Record, widthOf}
+use Rattle.registry.specs.Tags.{widthOf, ipv4Network, ipv6Network}
+use Rattle.octets.specs.Lists.{_∈_, within}
+use Rattle.records.specs.Record.{Record}
 use Rattle.image.specs.Image.{imageOf, sound}
-use Rattle.image.specs.declared.Which.the-variants.{Range}
-use Rattle.blocks.specs.Blocks.{Block, blocksOf}
+use Rattle.registry.specs.declared.Part.the-variants.{Range}
+use Rattle.forest.specs.Blocks.{Block, blocksOf}
 use Rattle.prefixes.specs.Call.{ipRangeOf}
 use Rattle.calls.specs.Calls.{partOf}
 
@@ -16,5 +17,5 @@ use Rattle.calls.specs.Calls.{partOf}
 abbrev pub NetworkRange : Type 0
 NetworkRange =
     (image : List ℕ) (records : List Record) → imageOf image ≡ sound records
-    → (family : ℕ) → T (within 0x10 0x11 family) → (b : Block) → b ∈ blocksOf family records
+    → (family : ℕ) → T (within ipv4Network ipv6Network family) → (b : Block) → b ∈ blocksOf family records
     → ipRangeOf (partOf image (b .number) Range) ≡ some (record { width = widthOf family; range = b .range })

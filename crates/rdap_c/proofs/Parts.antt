@@ -11,7 +11,7 @@ use Rattle.records.specs.declared.Span.{Span}
 use Rattle.image.specs.Image.{Image, sound, defective, imageOf}
 use Rattle.image.specs.Part.{recordsOf}
 use Rattle.image.specs.Entries.{spanOf, PartSpan}
-use Rattle.image.specs.declared.Which.{Which}
+use Rattle.registry.specs.declared.Part.{Part}
 use Rattle.image.proofs.Soundness.{opens}
 
 with-record : (s : List ℕ) (n : ℕ) → n < length (recordsOf (imageOf s)) → length s ≤ 262144
@@ -21,7 +21,7 @@ with-record s n h = go (imageOf s) refl h
     go (sound records) e k = opens s records e .few-bytes
     go (defective d p) e k = absurd (omega (arith, k))
 
-pub end-small : {s : List ℕ} {n : ℕ} {which : Which} {r : Span} → PartSpan s n which r → r .end ≤ 262144
+pub end-small : {s : List ℕ} {n : ℕ} {which : Part} {r : Span} → PartSpan s n which r → r .end ≤ 262144
 unfolding spanOf
 end-small {s} {n} {which} {r} h = go (ltb n (length (recordsOf (imageOf s)))) refl _ (h .same)
   where

@@ -1,7 +1,7 @@
 -- What the C functions write: the numbers of a reply (S3.1), of a part of the image, of the prefixes of a range, of a fold, and of the text of an address.
 use Prim.Native.Nat.{ℕ, _-_}
 use mathlib.Core.List.{List, [], _∷_}
-use Rattle.listing.specs.declared.Counted.{Counted}
+use Rattle.output.specs.declared.Counted.{Counted}
 use Rattle.records.specs.declared.Span.{Span}
 use Rattle.answers.specs.Reply.{Reply}
 use Rattle.changes.specs.Fold.{Folding}

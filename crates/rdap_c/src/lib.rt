@@ -13,9 +13,9 @@ ghost use Rattle.fold.specs.Call.{outAfter};
 ghost use Rattle.address_text.specs.Call.{writtenOf, textAfter};
 ghost use Rattle.rdap_c.specs.Numbers.{numbersOf, partNumbers, countedNumbers, foldingNumbers};
 use answers::Answer;
-use image::Which;
-use listing::Counted;
-use query::Relation;
+use output::Counted;
+use registry::Part;
+use registry::Relation;
 
 // The numbers of an answer.
 fn numbers(a: Answer) -> [u32; 7]
@@ -33,7 +33,7 @@ fn numbers(a: Answer) -> [u32; 7]
 }
 
 // Offset and length of a part of a record in the image.
-fn part_numbers(image: &[u8], record_number: u32, which: Which) -> [u32; 2]
+fn part_numbers(image: &[u8], record_number: u32, which: Part) -> [u32; 2]
     ensures { λ r. ⌜ r ≡ partNumbers (spanOf (now (image .entry)) record_number which) ⌝ }
 {
     let span = entries::part_span(image, record_number, which);
@@ -125,25 +125,25 @@ pub extern "C" fn rdap_bottom(
 // The handle of a record, as offset and length in the image; 0 and 0 if the image is defective or there is no such record.
 #[no_mangle]
 pub extern "C" fn rdap_handle(image: &[u8], record_number: u32, part: &mut [u32; 2])
-    ensures { λ _. ⌜ now (part .exit) ≡ partNumbers (spanOf (now (image .entry)) record_number Which.Handle) ⌝ }
+    ensures { λ _. ⌜ now (part .exit) ≡ partNumbers (spanOf (now (image .entry)) record_number Part.Handle) ⌝ }
 {
-    *part = part_numbers(image, record_number, Which::Handle);
+    *part = part_numbers(image, record_number, Part::Handle);
 }
 
 // The name of a record, as offset and length in the image; 0 and 0 if the image is defective or there is no such record.
 #[no_mangle]
 pub extern "C" fn rdap_name(image: &[u8], record_number: u32, part: &mut [u32; 2])
-    ensures { λ _. ⌜ now (part .exit) ≡ partNumbers (spanOf (now (image .entry)) record_number Which.Name) ⌝ }
+    ensures { λ _. ⌜ now (part .exit) ≡ partNumbers (spanOf (now (image .entry)) record_number Part.Name) ⌝ }
 {
-    *part = part_numbers(image, record_number, Which::Name);
+    *part = part_numbers(image, record_number, Part::Name);
 }
 
 // The range of a block, alike; 0 and 0 if the record is no block too.
 #[no_mangle]
 pub extern "C" fn rdap_range(image: &[u8], record_number: u32, part: &mut [u32; 2])
-    ensures { λ _. ⌜ now (part .exit) ≡ partNumbers (spanOf (now (image .entry)) record_number Which.Range) ⌝ }
+    ensures { λ _. ⌜ now (part .exit) ≡ partNumbers (spanOf (now (image .entry)) record_number Part.Range) ⌝ }
 {
-    *part = part_numbers(image, record_number, Which::Range);
+    *part = part_numbers(image, record_number, Part::Range);
 }
 
 // The prefixes of a range of addresses, to the front of the buffer.

@@ -1,10 +1,12 @@
 // What the system knows of a file that is there already.
 ghost use Prim.Native.Nat.{_≤_};
 ghost use lib.ListN.{length};
+ghost use Rattle.registry.specs.Limits.{mostRecords};
 ghost use Rattle.libc.specs.Io.{Ended};
 use libc::types::stat;
 use libc::types::timespec;
-use listing::put_bytes;
+use output::put_bytes;
+use registry::MOST_RECORDS;
 
 fn no_time() -> timespec {
     timespec {
@@ -42,7 +44,7 @@ pub struct Known {
     pub file: stat,
 }
 
-fn ask(path: &[u8; 4096], mut file: stat) -> Known
+fn ask(path: &[u8; MOST_RECORDS], mut file: stat) -> Known
     requires { ⌜ Ended (now path) ⌝ }
 {
     let status = libc::stat(path, &mut file);
@@ -50,8 +52,8 @@ fn ask(path: &[u8; 4096], mut file: stat) -> Known
 }
 
 // The path as C reads it, with a 0 after it.
-fn ended(path: &[u8]) -> [u8; 4096]
-    requires { ⌜ length (now path) ≤ 4096 ⌝ }
+fn ended(path: &[u8]) -> [u8; MOST_RECORDS]
+    requires { ⌜ length (now path) ≤ mostRecords ⌝ }
     ensures { λ r. ⌜ Ended r ⌝ }
 {
     let mut r = io::buffer();

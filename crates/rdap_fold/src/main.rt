@@ -8,6 +8,7 @@ mod known;
 
 ghost use Prim.Native.Nat.{_≤_, _<_};
 ghost use lib.ListN.{length};
+ghost use Rattle.registry.specs.Limits.{mostRecords};
 use entries::contents_span;
 use fields::Field;
 use fields::step_at;
@@ -23,17 +24,22 @@ use files::write_out;
 use final_list::final_record;
 use fold::Folded;
 use image::Verdict;
-use image::Which;
 use image::index_from;
 use known::Known;
 use libc::types::stat;
-use listing::put_bytes;
+use output::put_bytes;
+use registry::AS_BLOCK;
+use registry::ENTITY;
+use registry::IPV4_NETWORK;
+use registry::MOST_IMAGE;
+use registry::MOST_RECORDS;
+use registry::Part;
 
 // What is wrong, on standard error.
 
 // The handle of a record; empty if there is none.
 fn handle_in(r: &[u8]) -> &[u8] {
-    let span = contents_span(r, 0, Which::Handle);
+    let span = contents_span(r, 0, Part::Handle);
     part(r, span.start, span.end)
 }
 
@@ -41,8 +47,8 @@ fn handle_in(r: &[u8]) -> &[u8] {
 fn tell_addition(r: &[u8])
     requires { ⌜ length (now r) ≤ 65536 ⌝ }
 {
-    let mut places = [0u32; 4096];
-    match index_from(r, 0, &mut places) {
+    let mut starts = [0u32; MOST_RECORDS];
+    match index_from(r, 0, &mut starts) {
         Verdict::Sound(count) => {
             if count == 0 {
                 tell(b"it holds no record");
@@ -68,10 +74,10 @@ fn has_record_tag(r: &[u8]) -> bool {
     if r.len() == 0 {
         return false;
     }
-    if r[0] < 0x10 {
+    if r[0] < IPV4_NETWORK {
         return false;
     }
-    r[0] <= 0x15
+    r[0] <= ENTITY
 }
 
 // The name or the handle that a removal gives. A range is not text.
@@ -79,7 +85,7 @@ fn tell_key(r: &[u8]) {
     if r.len() == 0 {
         return;
     }
-    if r[0] <= 0x12 {
+    if r[0] <= AS_BLOCK {
         return;
     }
     tell_name(&r[1..]);
@@ -175,7 +181,7 @@ fn tell_refusal<'a>(
 
 // The name of the new file, as mkstemp takes it: OUTPUT and then a dot and six letters to be replaced.
 fn put_name(output: &[u8], name: &mut [u8]) -> usize
-    requires { ⌜ (length (now output) ≤ 4096) × (4103 ≤ length (now name)) ⌝ }
+    requires { ⌜ (length (now output) ≤ mostRecords) × (4103 ≤ length (now name)) ⌝ }
     ensures { λ r. ⌜ r ≤ length (now (name .exit)) ⌝ }
 {
     let n = output.len();
@@ -262,7 +268,7 @@ fn may_replace(old: Known) -> bool {
 
 // Puts the bytes in the place of OUTPUT.
 fn save(output: &[u8], bytes: &[u8]) -> bool
-    requires { ⌜ length (now output) ≤ 4096 ⌝ }
+    requires { ⌜ length (now output) ≤ mostRecords ⌝ }
 {
     let old = known::of_file(output);
     if !may_replace(old) {
@@ -291,9 +297,9 @@ fn fold_into<'a>(
     changes_name: &[u8],
     output: &[u8],
 )
-    requires { ⌜ (length (now changes) ≤ 65536) × (length (now output) ≤ 4096) ⌝ }
+    requires { ⌜ (length (now changes) ≤ 65536) × (length (now output) ≤ mostRecords) ⌝ }
 {
-    let mut room = [0u8; 262144];
+    let mut room = [0u8; MOST_IMAGE];
     let r = rdap::fold(image, changes, &mut room);
     if r.reason == 0 {
         let n = r.count as usize;
@@ -306,7 +312,7 @@ fn fold_into<'a>(
 }
 
 fn fold_with(image: &[u8], image_name: &[u8], changes_name: &[u8], output: &[u8])
-    requires { ⌜ length (now output) ≤ 4096 ⌝ }
+    requires { ⌜ length (now output) ≤ mostRecords ⌝ }
 {
     let mut changes = [0u8; 65537];
     let n = read_whole(changes_name, &mut changes);
@@ -322,11 +328,11 @@ fn fold_with(image: &[u8], image_name: &[u8], changes_name: &[u8], output: &[u8]
 }
 
 fn run(image_name: &[u8], changes_name: &[u8], output: &[u8])
-    requires { ⌜ length (now output) ≤ 4096 ⌝ }
+    requires { ⌜ length (now output) ≤ mostRecords ⌝ }
 {
     let mut image = [0u8; 262145];
     let n = read_whole(image_name, &mut image);
-    if n <= 262144 {
+    if n <= MOST_IMAGE {
         fold_with(part(&image, 0, n), image_name, changes_name, output);
     }
 }

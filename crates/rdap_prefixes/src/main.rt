@@ -19,16 +19,21 @@ use files::tell_record;
 use files::write_out;
 use filters::put_filter;
 use image::Verdict;
-use image::Which;
 use image::index;
 use layouts::Format;
-use name::equal;
 use names::Clash;
 use names::clash_of;
 use names::put_name_at;
 use networks::is_listed;
 use networks::part_at;
-use networks::place_of;
+use networks::start_of;
+use registry::AS_BLOCK;
+use registry::IPV6_NETWORK;
+use registry::MOST_IMAGE;
+use registry::MOST_RECORDS;
+use registry::Part;
+use registry::PerRecord;
+use texts::equal;
 
 // The output: what was put stands at the start of a buffer of 32,768 bytes and room for a list.
 const SPACE: usize = 32768 + filters::ROOM;
@@ -42,34 +47,34 @@ fn flush(out: &[u8; SPACE], at: usize) -> bool {
     write_out(part(out, 0, at))
 }
 
-// Puts the list of the network at a place after what was put. Gives where it ends.
-fn put_list(image: &[u8], place: u32, format: Format, out: &mut [u8], at: usize) -> usize
+// Puts the list of the network that starts at a position after what was put. Gives where it ends.
+fn put_list(image: &[u8], start: u32, format: Format, out: &mut [u8], at: usize) -> usize
     requires { ⌜ at ≤ length (now out) ⌝ }
 {
-    let handle = part_at(image, place, Which::Handle);
-    let range = part_at(image, place, Which::Range);
+    let handle = part_at(image, start, Part::Handle);
+    let range = part_at(image, start, Part::Range);
     at + put_filter(format, handle, range, &mut out[at..])
 }
 
 // The same where there may be no room: then what was put is written out first.
-fn put_next(image: &[u8], place: u32, format: Format, out: &mut [u8; SPACE], at: usize) -> Put {
+fn put_next(image: &[u8], start: u32, format: Format, out: &mut [u8; SPACE], at: usize) -> Put {
     if at < 32768 {
-        return Put::At(put_list(image, place, format, out, at));
+        return Put::At(put_list(image, start, format, out, at));
     }
     if flush(out, at) {
-        return Put::At(put_list(image, place, format, out, 0));
+        return Put::At(put_list(image, start, format, out, 0));
     }
     Put::Failed
 }
 
 // Writes the lists of the networks, which are the records before a number.
-fn write_lists(image: &[u8], places: &[u32; 4096], until: u32, format: Format, all: bool) {
+fn write_lists(image: &[u8], starts: &PerRecord, until: u32, format: Format, all: bool) {
     let mut out = [0u8; SPACE];
     let mut at: usize = 0;
     for i in 0..until {
-        let place = place_of(places, i);
-        if is_listed(image, place, all) {
-            match put_next(image, place, format, &mut out, at) {
+        let start = start_of(starts, i);
+        if is_listed(image, start, all) {
+            match put_next(image, start, format, &mut out, at) {
                 Put::At(next) => at = next,
                 Put::Failed => return,
             }
@@ -79,68 +84,68 @@ fn write_lists(image: &[u8], places: &[u32; 4096], until: u32, format: Format, a
 }
 
 // A network, after a text.
-fn tell_network(before: &[u8], image: &[u8], places: &[u32; 4096], number: u32) {
+fn tell_network(before: &[u8], image: &[u8], starts: &PerRecord, number: u32) {
     tell(before);
     tell_record(
         number,
-        part_at(image, place_of(places, number), Which::Handle),
+        part_at(image, start_of(starts, number), Part::Handle),
     );
 }
 
-fn tell_list_name(image: &[u8], place: u32, format: Format) {
+fn tell_list_name(image: &[u8], start: u32, format: Format) {
     let mut room = [0u8; 64];
-    let n = put_name_at(image, place, format, &mut room);
+    let n = put_name_at(image, start, format, &mut room);
     tell(part(&room, 0, n));
 }
 
 // That two networks would have the same name.
 fn tell_clash(
     image: &[u8],
-    places: &[u32; 4096],
+    starts: &PerRecord,
     first: u32,
     second: u32,
     format: Format,
     image_name: &[u8],
 ) {
     tell(image_name);
-    tell_network(b": records ", image, places, first);
-    tell_network(b" and ", image, places, second);
+    tell_network(b": records ", image, starts, first);
+    tell_network(b" and ", image, starts, second);
     tell(b" would both be named ");
-    tell_list_name(image, place_of(places, second), format);
+    tell_list_name(image, start_of(starts, second), format);
     tell(b"\n");
 }
 
 // Networks have the lowest tags, IPv4 before IPv6.
 fn list_networks(
     image: &[u8],
-    places: &[u32; 4096],
+    starts: &PerRecord,
     count: u32,
     format: Format,
     all: bool,
     image_name: &[u8],
 )
-    requires { ⌜ Indexed (now image) count (now places) ⌝ }
+    requires { ⌜ Indexed (now image) count (now starts) ⌝ }
 {
-    let middle = first_from(image, places, count, 0x11);
-    let until = first_from(image, places, count, 0x12);
-    match clash_of(image, places, middle, until, format, all) {
-        Clash::Nothing => write_lists(image, places, until, format, all),
-        Clash::Of(first, second) => tell_clash(image, places, first, second, format, image_name),
+    let middle = first_from(image, starts, count, IPV6_NETWORK);
+    let until = first_from(image, starts, count, AS_BLOCK);
+    match clash_of(image, starts, middle, until, format, all) {
+        Clash::Nothing => write_lists(image, starts, until, format, all),
+        Clash::Of(first, second) => tell_clash(image, starts, first, second, format, image_name),
     }
 }
 
 fn list_image(image: &[u8], format: Format, all: bool, image_name: &[u8]) {
-    let mut places = [0u32; 4096];
-    match index(image, &mut places) {
-        Verdict::Sound(count) => list_networks(image, &places, count, format, all, image_name),
-        Verdict::Defective(defect, place) => tell_image(image_name, defect, place),
+    let mut starts = [0u32; MOST_RECORDS];
+    match index(image, &mut starts) {
+        Verdict::Sound(count) => list_networks(image, &starts, count, format, all, image_name),
+        Verdict::Defective(defect, start) => tell_image(image_name, defect, start),
     }
 }
 
 fn list_file(image_name: &[u8], format: Format, all: bool) {
     let mut image = [0u8; 262145];
     let n = read_whole(image_name, &mut image);
-    if n <= 262144 {
+    if n <= MOST_IMAGE {
         list_image(part(&image, 0, n), format, all, image_name);
     }
 }

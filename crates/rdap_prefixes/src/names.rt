@@ -1,27 +1,28 @@
-// The names of lists: whether two networks have the same one. A table of 8,192 places has the numbers of the networks, each one more than it is, by
-// the hash of its name or after it; 0 is a free place. There are at most 4,096 networks, so that at least half of it is free.
+// The names of lists: whether two networks have the same one. A table of 8,192 slots has the numbers of the networks, each one more than it is, by
+// the hash of its name or after it; 0 is a free slot. There are at most 4,096 networks, so that at least half of it is free.
 ghost use Prim.Native.Nat.{_≤_, _<_};
 ghost use lib.ListN.{length};
 use crate::networks::is_listed;
 use crate::networks::part_at;
-use crate::networks::place_of;
-use address::wide;
+use crate::networks::start_of;
 use files::part;
-use image::Which;
 use layouts::Format;
 use layouts::put_name;
-use name::equal;
+use registry::Part;
+use registry::PerRecord;
+use texts::equal;
+use words::wide;
 
-// The name of the list of the network at a place.
-pub fn put_name_at(image: &[u8], place: u32, format: Format, name: &mut [u8]) -> usize
+// The name of the list of the network that starts at a position.
+pub fn put_name_at(image: &[u8], start: u32, format: Format, name: &mut [u8]) -> usize
     requires { ⌜ 64 ≤ length (now name) ⌝ }
 {
-    put_name(format, part_at(image, place, Which::Handle), name)
+    put_name(format, part_at(image, start, Part::Handle), name)
 }
 
-fn has_name(image: &[u8], place: u32, format: Format, name: &[u8]) -> bool {
+fn has_name(image: &[u8], start: u32, format: Format, name: &[u8]) -> bool {
     let mut room = [0u8; 64];
-    let n = put_name_at(image, place, format, &mut room);
+    let n = put_name_at(image, start, format, &mut room);
     equal(part(&room, 0, n), name)
 }
 
@@ -40,7 +41,7 @@ fn hash_of(name: &[u8]) -> usize
     (hash / 65536 % 8192) as usize
 }
 
-// The place of the table for a name, or the number of the network that has it.
+// The slot of the table for a name, or the number of the network that has it.
 enum Slot {
     Free(usize),
     Taken(u32),
@@ -48,7 +49,7 @@ enum Slot {
 
 fn find(
     image: &[u8],
-    places: &[u32; 4096],
+    starts: &PerRecord,
     table: &[u32; 8192],
     format: Format,
     name: &[u8],
@@ -61,7 +62,7 @@ fn find(
             return Slot::Free(at);
         }
         let number = entry - 1;
-        if has_name(image, place_of(places, number), format, name) {
+        if has_name(image, start_of(starts, number), format, name) {
             return Slot::Taken(number);
         }
     }
@@ -81,7 +82,7 @@ fn note(slot: Slot, number: u32, table: &mut [u32; 8192])
 // Enters a network into the table, unless one of its name is there.
 fn enter(
     image: &[u8],
-    places: &[u32; 4096],
+    starts: &PerRecord,
     number: u32,
     format: Format,
     table: &mut [u32; 8192],
@@ -89,8 +90,8 @@ fn enter(
     requires { ⌜ number < 4294967295 ⌝ }
 {
     let mut room = [0u8; 64];
-    let n = put_name_at(image, place_of(places, number), format, &mut room);
-    let slot = find(image, places, table, format, part(&room, 0, n));
+    let n = put_name_at(image, start_of(starts, number), format, &mut room);
+    let slot = find(image, starts, table, format, part(&room, 0, n));
     note(slot, number, table);
     slot
 }
@@ -104,7 +105,7 @@ pub enum Clash {
 // The first of the networks to be listed from a number up to another.
 fn clash_in(
     image: &[u8],
-    places: &[u32; 4096],
+    starts: &PerRecord,
     from: u32,
     until: u32,
     format: Format,
@@ -112,8 +113,8 @@ fn clash_in(
 ) -> Clash {
     let mut table = [0u32; 8192];
     for i in from..until {
-        if is_listed(image, place_of(places, i), all) {
-            if let Slot::Taken(first) = enter(image, places, i, format, &mut table) {
+        if is_listed(image, start_of(starts, i), all) {
+            if let Slot::Taken(first) = enter(image, starts, i, format, &mut table) {
                 return Clash::Of(first, i);
             }
         }
@@ -124,7 +125,7 @@ fn clash_in(
 // The first of those before a number, IPv4 up to the middle. A plain list has no name; in cisco each family has names of its own.
 pub fn clash_of(
     image: &[u8],
-    places: &[u32; 4096],
+    starts: &PerRecord,
     middle: u32,
     until: u32,
     format: Format,
@@ -132,12 +133,12 @@ pub fn clash_of(
 ) -> Clash {
     match format {
         Format::Plain => Clash::Nothing,
-        Format::Cisco => match clash_in(image, places, 0, middle, format, all) {
-            Clash::Nothing => clash_in(image, places, middle, until, format, all),
+        Format::Cisco => match clash_in(image, starts, 0, middle, format, all) {
+            Clash::Nothing => clash_in(image, starts, middle, until, format, all),
             Clash::Of(first, second) => Clash::Of(first, second),
         },
         Format::Bird | Format::Juniper | Format::Json => {
-            clash_in(image, places, 0, until, format, all)
+            clash_in(image, starts, 0, until, format, all)
         }
     }
 }

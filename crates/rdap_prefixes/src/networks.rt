@@ -1,33 +1,35 @@
-// The networks of a sound image. A place is where a record starts.
+// The networks of a sound image.
 ghost use Prim.Native.Nat.{_≤_};
 ghost use lib.ListN.{length};
 use entries::contents_span;
 use fields::Field;
 use files::part;
-use image::Which;
+use registry::MOST_RECORDS;
+use registry::Part;
+use registry::PerRecord;
 
-pub fn place_of(places: &[u32; 4096], number: u32) -> u32 {
+pub fn start_of(starts: &PerRecord, number: u32) -> u32 {
     let i = number as usize;
-    if i < 4096 {
-        return places[i];
+    if i < MOST_RECORDS {
+        return starts[i];
     }
     0
 }
 
-// The range or the handle of the record at a place, which have at most 64 bytes.
-pub fn part_at(image: &[u8], place: u32, which: Which) -> &[u8]
+// The range or the handle of the record that starts at a position, which have at most 64 bytes.
+pub fn part_at(image: &[u8], start: u32, which: Part) -> &[u8]
     ensures { λ r. ⌜ length (now r) ≤ 64 ⌝ }
 {
-    let span = contents_span(image, place as usize, which);
+    let span = contents_span(image, start as usize, which);
     part(part(image, span.start, span.end), 0, 64)
 }
 
-// Whether the network at a place is to be listed: all of them are, or its last byte, field 23, is 1.
-pub fn is_listed(image: &[u8], place: u32, all: bool) -> bool {
+// Whether the network that starts at a position is to be listed: all of them are, or its last byte, field 23, is 1.
+pub fn is_listed(image: &[u8], start: u32, all: bool) -> bool {
     if all {
         return true;
     }
-    let Field::Whole { tag: _, start, end } = fields::read(image, place as usize) else {
+    let Field::Whole { tag: _, start, end } = fields::read(image, start as usize) else {
         return false;
     };
     let contents = part(image, start, end);

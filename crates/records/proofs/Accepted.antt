@@ -7,10 +7,11 @@ use borrow.Author.Tests.{leb-true, ltb-true, eqb-true}
 use native.Mathlib.Omega.{arith}
 use native.Mathlib.Nat.{le-of-lt}
 use lib.Dec.{leb, ltb, eqb}
-use Rattle.address.specs.Number.{value}
+use Rattle.registry.specs.Tags.{isBlock}
+use Rattle.octets.specs.Number.{value}
 use Rattle.address.specs.Ranges.{wellFormed, sortsAfter}
-use Rattle.name.specs.Texts.{goodText}
-use Rattle.records.specs.Record.{Record, Parsed, whole, malformed, isBlock, recordOf, firstOf, lastOf, goodName, goodContents, sortedAfter, follows}
+use Rattle.texts.specs.Texts.{goodText}
+use Rattle.records.specs.Record.{Record, Parsed, whole, malformed, recordOf, firstOf, lastOf, goodName, goodContents, sortedAfter, follows}
 use Rattle.records.specs.Judge.{Judged, bad, good, judgeParsed, judgeAlone, judgeOverlap, inOrder, crossesAny}
 
 -- without defects 3 to 6 after the earlier records, the latest first
@@ -24,14 +25,14 @@ pub record Accepted (earlier : List Record) (tag : ℕ) (contents : List ℕ) (r
 record FromParsed (earlier : List Record) (p : Parsed) (r : Record) : Type 0 where
   is-whole : p ≡ whole r
   has-contents : goodContents r ≡ true
-  in-place : inOrder earlier r ≡ true
+  in-order : inOrder earlier r ≡ true
 
 parsed-good : (earlier : List Record) (p : Parsed) (r : Record) → judgeParsed earlier p ≡ good r → FromParsed earlier p r
 parsed-good earlier malformed r e = let z : _≡_ {A = ℕ} 0 1 = cc in absurd (omega arith)
 parsed-good earlier (whole q) r e = by-tests (goodContents q) (inOrder earlier q) refl refl e
   where
     by-tests : (u v : Bool) → goodContents q ≡ u → inOrder earlier q ≡ v → cond u (cond v (good q) (bad 6)) (bad 5) ≡ good r → FromParsed earlier (whole q) r
-    by-tests true true x y k = let f : q ≡ r = cc in record { is-whole = (rw f); has-contents = (rw f at x); in-place = (rw f at y) }
+    by-tests true true x y k = let f : q ≡ r = cc in record { is-whole = (rw f); has-contents = (rw f at x); in-order = (rw f at y) }
     by-tests true false x y k = let z : _≡_ {A = ℕ} 0 1 = cc in absurd (omega arith)
     by-tests false v x y k = let z : _≡_ {A = ℕ} 0 1 = cc in absurd (omega arith)
 
@@ -43,7 +44,7 @@ alone-good earlier tag contents r e = by-tag (leb 0x10 tag) (leb tag 0x15) refl 
         → Accepted earlier tag contents r
     by-tag true true x y z =
         let k = parsed-good earlier (recordOf tag contents) r z in
-        record { low = leb-true _ _ x; high = leb-true _ _ y; parsed = k .is-whole; good-contents = k .has-contents; ordered = k .in-place }
+        record { low = leb-true _ _ x; high = leb-true _ _ y; parsed = k .is-whole; good-contents = k .has-contents; ordered = k .in-order }
     by-tag true false x y z = let k : _≡_ {A = ℕ} 0 1 = cc in absurd (omega arith)
     by-tag false u x y z = let k : _≡_ {A = ℕ} 0 1 = cc in absurd (omega arith)
 

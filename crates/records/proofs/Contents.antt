@@ -8,12 +8,14 @@ use native.Mathlib.Omega.{arith}
 use lib.Dec.{leb}
 use lib.ListN.{length, getD}
 use lib.Seq.{slice, slice-cons, slice-empty, take-nil, drop-nil}
-use Rattle.address.specs.Number.{value, valueFrom}
+use Rattle.registry.specs.Tags.{isBlock, widthOf}
+use Rattle.octets.specs.Number.{value, valueFrom}
 use Rattle.address.specs.Ranges.{rangeFrom, wellFormed}
-use Rattle.address.specs.Positions.{numberIn, rangeIn}
+use Rattle.octets.specs.Positions.{numberIn}
+use Rattle.address.specs.Positions.{rangeIn}
 use Rattle.fields.specs.Slices.{take-slice, drop-slice}
-use Rattle.records.specs.Record.{isBlock, widthOf, rangeOf, goodTexts, goodBlock, goodContents}
-use Rattle.records.specs.Place.{bytesOf}
+use Rattle.records.specs.Record.{rangeOf, goodTexts, goodBlock, goodContents}
+use Rattle.records.specs.Positions.{bytesOf}
 use Rattle.records.specs.Layout.{partsOf, recordOn, LaidOut}
 use Rattle.records.specs.declared.Span.{Span}
 use Rattle.records.specs.declared.Layout.{Layout}

@@ -5,8 +5,9 @@ use Prim.Native.Nat.{_≤_, _<_}
 use borrow.Author.Tests.{le-leb, lt-leb, eq-eqb, ne-eqb}
 use native.Mathlib.Nat.{le-trans}
 use lib.Dec.{leb, eqb}
+use Rattle.registry.specs.Tags.{isBlock}
 use Rattle.address.specs.Ranges.{overlaps, covers, crosses}
-use Rattle.records.specs.Record.{Record, isBlock, rangeOf, firstOf, lastOf, crossesBlock}
+use Rattle.records.specs.Record.{Record, rangeOf, firstOf, lastOf, crossesBlock}
 
 and-false : (b : Bool) → (b && false) ≡ false
 and-false true = refl

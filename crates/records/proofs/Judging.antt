@@ -4,7 +4,8 @@ use mathlib.Core.Bool.{Bool, true, false, cond}
 use mathlib.Core.List.{List, []}
 use Prim.Native.Nat.{ℕ}
 use borrow.Author.Tests.{le-leb}
-use Rattle.records.specs.Record.{Record, whole, isKnown, recordOf, goodContents}
+use Rattle.registry.specs.Tags.{isKnown}
+use Rattle.records.specs.Record.{Record, whole, recordOf, goodContents}
 use Rattle.records.specs.Judge.{bad, good, judge, judgeAlone, inOrder, crossesAny}
 use Rattle.records.proofs.Accepted.{Accepted, alone-good, overlap-good}
 

@@ -7,9 +7,10 @@ use native.Mathlib.Omega.{arith}
 use native.Mathlib.Nat.{le-refl}
 use lib.ListN.{length}
 use lib.Seq.{slice, slice-empty}
-use Rattle.fields.specs.Place.{passed}
-use Rattle.records.specs.Record.{Record, whole, isBlock, widthOf, recordOf}
-use Rattle.records.specs.Place.{bytesOf, Inside, innerSpan, rangeSpan, handleSpan, nameSpan}
+use Rattle.registry.specs.Tags.{isBlock, widthOf}
+use Rattle.fields.specs.Positions.{passed}
+use Rattle.records.specs.Record.{Record, whole, recordOf}
+use Rattle.records.specs.Positions.{bytesOf, Inside, innerSpan, rangeSpan, handleSpan, nameSpan}
 use Rattle.records.specs.Layout.{spanFromTo, layoutOf, recordOn}
 use Rattle.records.proofs.Shapes.{Stands, Texts, BlockFields, is, named-whole, named-fields, block-whole, block-fields}
 

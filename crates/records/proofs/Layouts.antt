@@ -8,10 +8,11 @@ use native.Mathlib.Omega.{arith}
 use lib.Dec.{eqb}
 use lib.ListN.{take, drop}
 use lib.Seq.{slice}
+use Rattle.registry.specs.Tags.{isBlock}
 use Rattle.fields.specs.Slices.{part-slice}
-use Rattle.name.specs.Texts.{goodText}
-use Rattle.records.specs.Record.{isBlock, goodName, goodTexts, keyOf}
-use Rattle.records.specs.Place.{Parts, Inside, bytesOf}
+use Rattle.texts.specs.Texts.{goodText}
+use Rattle.records.specs.Record.{goodName, goodTexts, keyOf}
+use Rattle.records.specs.Positions.{Parts, Inside, bytesOf}
 use Rattle.records.specs.Layout.{spanFromTo, partsOf, keySpan, recordOn, LaidOut}
 use Rattle.records.proofs.Shapes.{no-block}
 use Rattle.records.specs.declared.Layout.{Layout}

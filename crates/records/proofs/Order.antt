@@ -7,11 +7,12 @@ use Prim.Native.Nat.{ℕ, _≤_, _<_}
 use borrow.Author.Tests.{ltb-true, ltb-false, eqb-true, eqb-false, lt-ltb, eq-eqb, not-true, not-false}
 use native.Mathlib.Omega.{arith}
 use lib.Dec.{ltb, eqb}
-use Rattle.address.specs.Number.{atMost}
+use Rattle.registry.specs.Tags.{isBlock}
+use Rattle.octets.specs.Number.{atMost}
 use Rattle.address.specs.Ranges.{Range, sortsAfter}
-use Rattle.address.proofs.Order.{at-most-trans, after-trans}
-use Rattle.pieces.proofs.Tests.{or-true}
-use Rattle.records.specs.Record.{Record, isBlock, rangeOf, keyOf, sortedAfter, follows}
+use Rattle.octets.proofs.Order.{at-most-trans, after-trans}
+use Rattle.octets.proofs.Connectives.{or-true}
+use Rattle.records.specs.Record.{Record, rangeOf, keyOf, sortedAfter, follows}
 
 -- Texts
 

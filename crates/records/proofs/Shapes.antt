@@ -10,18 +10,19 @@ use native.Mathlib.Numerals.{add-one}
 use lib.Dec.{leb, eqb}
 use lib.ListN.{length}
 use lib.Seq.{slice, slice-empty, length-slice}
-use Rattle.address.specs.Lists.{within}
-use Rattle.pieces.proofs.Tests.{and-left, and-right, within-high}
-use Rattle.name.specs.Host.{isHostName}
-use Rattle.name.specs.Texts.{goodText, goodHost}
-use Rattle.fields.specs.Place.{fieldAt, headAt, endBy, endBetween}
+use Rattle.registry.specs.Tags.{isBlock, widthOf}
+use Rattle.octets.specs.Lists.{within}
+use Rattle.octets.proofs.Connectives.{and-left, and-right, within-high}
+use Rattle.texts.specs.Host.{isHostName}
+use Rattle.texts.specs.Texts.{goodText, goodHost}
+use Rattle.fields.specs.Positions.{fieldAt, headAt, endBy, endBetween}
 use Rattle.fields.specs.Heads.{head-slice, field-inside}
 use Rattle.fields.specs.declared.Field.{Field}
 use Rattle.fields.specs.declared.Field.the-variants.{Whole, Short}
 use Rattle.fields.specs.declared.End.{End}
 use Rattle.fields.specs.declared.End.the-variants.{At, Nothing}
-use Rattle.records.specs.Record.{Record, Parsed, whole, malformed, isWhole, isBlock, widthOf, following, starting, ending, recordOf, goodName, goodTexts, goodBlock, goodContents}
-use Rattle.records.specs.Place.{bytesOf}
+use Rattle.records.specs.Record.{Record, Parsed, whole, malformed, isWhole, following, starting, ending, recordOf, goodName, goodTexts, goodBlock, goodContents}
+use Rattle.records.specs.Positions.{bytesOf}
 use Rattle.records.specs.Layout.{partsOf, layoutOf, recordOn, LaidOut, Lying, Shaped, past, endPast}
 use Rattle.records.specs.declared.Layout.{Layout}
 use Rattle.records.specs.declared.Shape.the-variants as Shape

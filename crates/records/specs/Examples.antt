@@ -4,7 +4,7 @@ use mathlib.Core.Path.{_≡_, refl}
 use mathlib.Core.Bool.{Bool, true, false}
 use mathlib.Core.List.{List, [], _∷_, map}
 use Rattle.records.specs.Record.{Record, follows, crossesBlock}
-use Rattle.records.specs.Place.{handleSpan, nameSpan}
+use Rattle.records.specs.Positions.{handleSpan, nameSpan}
 use Rattle.records.specs.Computing.{computing}
 
 -- a block of numbers below 256

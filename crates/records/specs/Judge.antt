@@ -2,7 +2,8 @@
 use mathlib.Core.Bool.{Bool, true, false, cond, _||_}
 use mathlib.Core.List.{List, [], _∷_}
 use Prim.Native.Nat.{ℕ}
-use Rattle.records.specs.Record.{Record, Parsed, whole, malformed, isKnown, recordOf, goodContents, follows, crossesBlock}
+use Rattle.registry.specs.Tags.{isKnown}
+use Rattle.records.specs.Record.{Record, Parsed, whole, malformed, recordOf, goodContents, follows, crossesBlock}
 
 -- a record's lowest defect, or the record
 pub data Judged : Type 0 where

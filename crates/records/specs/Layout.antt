@@ -7,12 +7,13 @@ use Prim.Native.Nat.{ℕ, suc, _+_, _-_, _*_}
 use lib.Dec.{eqb}
 use lib.ListN.{length}
 use lib.Seq.{slice}
-use Rattle.fields.specs.Place.{fieldAt}
+use Rattle.registry.specs.Tags.{isBlock, isKnown, widthOf, entity, headLength}
+use Rattle.fields.specs.Positions.{fieldAt}
 use Rattle.fields.specs.declared.Field.{Field}
 use Rattle.fields.specs.declared.Field.the-variants as Field
-use Rattle.records.specs.Record.{Record, whole, isBlock, isKnown, widthOf, recordOf, goodContents}
+use Rattle.records.specs.Record.{Record, whole, recordOf, goodContents}
 use Rattle.records.specs.Judge.{bad, judgeAlone}
-use Rattle.records.specs.Place.{Parts, recordAt, Placed}
+use Rattle.records.specs.Positions.{Parts, recordAt, Placed}
 use Rattle.records.specs.declared.Span.{Span}
 use Rattle.records.specs.declared.Layout.{Layout}
 use Rattle.records.specs.declared.Shape.{Shape}
@@ -30,21 +31,21 @@ abbrev pub partsOf : Layout → Parts
 partsOf l =
     cond (isBlock (l .tag))
     (record {
-      range = spanFromTo (l .start + 3) (l .start + 3 + 2 * widthOf (l .tag));
+      range = spanFromTo (l .start + headLength) (l .start + headLength + 2 * widthOf (l .tag));
       handle = spanFromTo (l .start + 6 + 2 * widthOf (l .tag)) (l .middle);
-      name = spanFromTo (l .middle + 3) (l .end - 4);
+      name = spanFromTo (l .middle + headLength) (l .end - 4);
       status = spanFromTo (l .end - 1) (l .end);
     })
     (record {
       range = spanFromTo (l .start) (l .start);
-      handle = spanFromTo (l .start + 3) (l .middle);
-      name = spanFromTo (l .middle + 3) (l .end);
+      handle = spanFromTo (l .start + headLength) (l .middle);
+      name = spanFromTo (l .middle + headLength) (l .end);
       status = spanFromTo (l .start) (l .start);
     })
 
 -- where the bytes are by which a record that is no block is sorted
 abbrev pub keySpan : Layout → Span
-keySpan l = cond (eqb (l .tag) 0x15) (partsOf l .handle) (partsOf l .name)
+keySpan l = cond (eqb (l .tag) entity) (partsOf l .handle) (partsOf l .name)
 
 -- the record that lies so
 abbrev pub recordOn : List ℕ → Layout → Record

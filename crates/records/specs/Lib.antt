@@ -1,6 +1,6 @@
 pub mod Record
 pub mod Judge
-pub mod Place
+pub mod Positions
 pub mod Examples
 pub mod Computing
 pub mod Layout

@@ -4,11 +4,12 @@ use mathlib.Core.List.{List, [], _∷_}
 use Prim.Native.Nat.{ℕ, _*_}
 use lib.Dec.{leb, ltb, eqb}
 use lib.ListN.{length}
-use Rattle.address.specs.Lists.{within}
-use Rattle.address.specs.Number.{value, atMost}
+use Rattle.registry.specs.Tags.{asBlock, domain, entity, ipv4Network, ipv6Network, nameserver, isBlock, widthOf}
+use Rattle.octets.specs.Lists.{within}
+use Rattle.octets.specs.Number.{value, atMost}
 use Rattle.address.specs.Ranges.{Range, rangeFrom, wellFormed, sortsAfter, crosses}
 use Rattle.fields.specs.Field.{Head, field, short, headOf}
-use Rattle.name.specs.Texts.{goodText, goodHost}
+use Rattle.texts.specs.Texts.{goodText, goodHost}
 
 -- the contents of a record's fields 20 to 23; a record that has no 20 and 23 has none there
 pub record Record : Type 0 where
@@ -17,17 +18,6 @@ pub record Record : Type 0 where
   pub handle : List ℕ
   pub name : List ℕ
   pub status : List ℕ
-
--- S4.3: 10 IPv4 network, 11 IPv6 network, 12 AS block; 13 domain, 14 nameserver, 15 entity
-abbrev pub isBlock : ℕ → Bool
-isBlock tag = within 0x10 0x12 tag
-
-abbrev pub isKnown : ℕ → Bool
-isKnown tag = within 0x10 0x15 tag
-
--- the bytes of an address or number of a block
-abbrev pub widthOf : ℕ → ℕ
-widthOf tag = cond (eqb tag 0x11) 16 4
 
 abbrev pub rangeOf : Record → Range
 rangeOf r = rangeFrom (widthOf (r .tag)) (r .range)
@@ -75,7 +65,7 @@ recordOf tag contents =
 
 -- records 13 and 14 are named by a host name
 unfoldable pub goodName : ℕ → List ℕ → Bool
-goodName tag name = cond (within 0x13 0x14 tag) (goodHost name) (goodText 0x20 name)
+goodName tag name = cond (within domain nameserver tag) (goodHost name) (goodText 0x20 name)
 
 -- S4.3: 21 is a handle, 22 a name
 abbrev pub goodTexts : Record → Bool
@@ -92,7 +82,7 @@ goodContents r = goodTexts r && goodBlock r
 
 -- what a record that is no block is sorted by
 abbrev pub keyOf : Record → List ℕ
-keyOf r = cond (eqb (r .tag) 0x15) (r .handle) (r .name)
+keyOf r = cond (eqb (r .tag) entity) (r .handle) (r .name)
 
 -- of one tag, r strictly after p in the sorting: blocks by first ascending, then last descending
 unfoldable pub sortedAfter : Record → Record → Bool

@@ -4,7 +4,7 @@
 // All are asked of the image in the file `campus.image`.
 ghost use Prim.Native.Nat.{_<_};
 use libc::STDOUT_FILENO;
-use query::Relation;
+use registry::Relation;
 
 fn number(n: u32) {
     io::print_decimal(STDOUT_FILENO, n as u64);
@@ -40,9 +40,9 @@ fn ask(image: &[u8], record: u32, relation: Relation, list: &mut [u32]) {
 }
 
 // Lends as many places as the case has, of 4,096.
-fn ask_with(image: &[u8], record: u32, relation: Relation, list: &mut [u32], places: usize) {
-    if places <= list.len() {
-        ask(image, record, relation, &mut list[..places]);
+fn ask_with(image: &[u8], record: u32, relation: Relation, list: &mut [u32], room: usize) {
+    if room <= list.len() {
+        ask(image, record, relation, &mut list[..room]);
     }
 }
 
@@ -68,8 +68,8 @@ fn run_case(image: &[u8], case: &[u8], list: &mut [u32]) {
     let high = wide(case[0]) * 256 + wide(case[1]);
     let low = wide(case[2]) * 256 + wide(case[3]);
     let record = high * 65536 + low;
-    let places = wide(case[5]) * 256 + wide(case[6]);
-    ask_with(image, record, relation_of(case[4]), list, places as usize);
+    let room = wide(case[5]) * 256 + wide(case[6]);
+    ask_with(image, record, relation_of(case[4]), list, room as usize);
 }
 
 fn run_cases(image: &[u8], cases: &[u8], list: &mut [u32]) {

@@ -3,8 +3,8 @@ use Prim.Native.Nat.{ℕ}
 use mathlib.Core.Bool.{Bool, true, false}
 use mathlib.Core.List.{List}
 use Rattle.address.specs.Ranges.{Range}
-use Rattle.blocks.specs.Blocks.{Block}
-use Rattle.blocks.specs.Relations.{down, bottom}
+use Rattle.forest.specs.Blocks.{Block}
+use Rattle.forest.specs.Relations.{down, bottom}
 use Rattle.scans.specs.Around.{aroundIn}
 use Rattle.relations.specs.declared.Finding.{Finding}
 use Rattle.relations.specs.declared.Finding.the-variants.{Around, Down, Bottom}

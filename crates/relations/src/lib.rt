@@ -3,17 +3,20 @@ ghost use mathlib.Core.Bool.{true};
 ghost use mathlib.Core.Path.{_≡_};
 ghost use Prim.Native.Nat.{_≤_};
 ghost use lib.ListN.{length};
+ghost use Rattle.registry.specs.Limits.{mostRecords};
+ghost use Rattle.registry.specs.Tags.{isBlock};
 ghost use Rattle.address.specs.Address.{number, numbers};
-ghost use Rattle.records.specs.Record.{isBlock};
 ghost use Rattle.image.specs.Index.{Indexed};
-ghost use Rattle.listing.specs.Listing.{Reported, Collected};
-ghost use Rattle.scans.specs.Standing.{blocksIn, Asked};
+ghost use Rattle.output.specs.Listing.{Reported, Collected};
+ghost use Rattle.scans.specs.Standing.{blocksIn, Searchable};
 ghost use Rattle.relations.specs.Finding.{foundIn, insideOf};
-use address::Range;
+use address::AddressRange;
 use image::Run;
-use listing::Listed;
-use listing::report;
-use listing::report_found;
+use output::Listed;
+use output::report;
+use output::report_found;
+use registry::MOST_RECORDS;
+use registry::PerRecord;
 use scans::Around;
 use scans::find_around;
 
@@ -27,73 +30,73 @@ pub enum Finding {
 // The blocks that down, or bottom, finds.
 fn collect(
     image: &[u8],
-    places: &[u32; 4096],
+    starts: &PerRecord,
     blocks: Run,
-    range: Range,
+    range: AddressRange,
     deep: bool,
-    hits: &mut [u32; 4096],
+    hits: &mut PerRecord,
 ) -> usize
-    requires { ⌜ Asked (now image) (now places) blocks range × (length (now hits) ≡ 4096) ⌝ }
-    ensures { λ r. ⌜ Collected (now (hits .exit)) (insideOf deep (blocksIn (now (image .entry)) (blocks .first)) (numbers range)) r ⌝ }
+    requires { ⌜ Searchable (now image) (now starts) blocks range × (length (now hits) ≡ mostRecords) ⌝ }
+    ensures { λ r. ⌜ Collected (now (hits .exit)) (insideOf deep (blocksIn (now (image .entry)) (blocks .low)) (numbers range)) r ⌝ }
 {
     if deep {
-        return bottom::bottom(image, places, blocks, range, hits);
+        return bottom::bottom(image, starts, blocks, range, hits);
     }
-    scans::children(image, places, blocks, range, hits)
+    scans::children(image, starts, blocks, range, hits)
 }
 
 // They are reported to the list. With two calls of it the compiler leaves it a function, so that its arrays take no stack where at most one
 // block is found.
 fn list_inside(
     image: &[u8],
-    places: &[u32; 4096],
+    starts: &PerRecord,
     blocks: Run,
-    range: Range,
+    range: AddressRange,
     deep: bool,
     list: &mut [u32],
 ) -> Listed
-    requires { ⌜ Asked (now image) (now places) blocks range ⌝ }
-    ensures { λ r. ⌜ Reported (insideOf deep (blocksIn (now (image .entry)) (blocks .first)) (numbers range)) (now (list .entry)) (now (list .exit)) r ⌝ }
+    requires { ⌜ Searchable (now image) (now starts) blocks range ⌝ }
+    ensures { λ r. ⌜ Reported (insideOf deep (blocksIn (now (image .entry)) (blocks .low)) (numbers range)) (now (list .entry)) (now (list .exit)) r ⌝ }
 {
-    let mut hits = [0u32; 4096];
-    let n = collect(image, places, blocks, range, deep, &mut hits);
+    let mut hits = [0u32; MOST_RECORDS];
+    let n = collect(image, starts, blocks, range, deep, &mut hits);
     report(&hits[..n], list)
 }
 
 // What is found among the blocks of a run, reported to the list.
 fn list_found(
     image: &[u8],
-    places: &[u32; 4096],
+    starts: &PerRecord,
     blocks: Run,
     what: Finding,
-    range: Range,
+    range: AddressRange,
     list: &mut [u32],
 ) -> Listed
-    requires { ⌜ Asked (now image) (now places) blocks range ⌝ }
-    ensures { λ r. ⌜ Reported (foundIn what (blocksIn (now (image .entry)) (blocks .first)) (numbers range)) (now (list .entry)) (now (list .exit)) r ⌝ }
+    requires { ⌜ Searchable (now image) (now starts) blocks range ⌝ }
+    ensures { λ r. ⌜ Reported (foundIn what (blocksIn (now (image .entry)) (blocks .low)) (numbers range)) (now (list .entry)) (now (list .exit)) r ⌝ }
 {
     match what {
         Finding::Around(which) => {
-            report_found(find_around(image, places, blocks, range, which), list)
+            report_found(find_around(image, starts, blocks, range, which), list)
         }
-        Finding::Down => list_inside(image, places, blocks, range, false, list),
-        Finding::Bottom => list_inside(image, places, blocks, range, true, list),
+        Finding::Down => list_inside(image, starts, blocks, range, false, list),
+        Finding::Bottom => list_inside(image, starts, blocks, range, true, list),
     }
 }
 
 // What is found of a range of a family, reported to the list.
 pub fn find(
     image: &[u8],
-    places: &[u32; 4096],
+    starts: &PerRecord,
     count: u32,
     what: Finding,
     family: u8,
-    range: Range,
+    range: AddressRange,
     list: &mut [u32],
 ) -> Listed
-    requires { ⌜ Indexed (now image) count (now places) × (isBlock family ≡ true) × (number (range .first) ≤ number (range .last)) ⌝ }
+    requires { ⌜ Indexed (now image) count (now starts) × (isBlock family ≡ true) × (number (range .first) ≤ number (range .last)) ⌝ }
     ensures { λ r. ⌜ Reported (foundIn what (blocksIn (now (image .entry)) family) (numbers range)) (now (list .entry)) (now (list .exit)) r ⌝ }
 {
-    let blocks = entries::run_of(image, places, count, family, family);
-    list_found(image, places, blocks, what, range, list)
+    let blocks = entries::run_of(image, starts, count, family, family);
+    list_found(image, starts, blocks, what, range, list)
 }

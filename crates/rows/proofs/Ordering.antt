@@ -5,8 +5,8 @@ use mathlib.Core.List.{List, [], _∷_, _++_}
 use Prim.Native.Nat.{ℕ, zero, suc}
 use lib.Dec.{leb}
 use lib.ListN.{length, take}
-use Rattle.address.specs.Lists.{contains}
-use Rattle.address.proofs.Tests.{is-true}
+use Rattle.octets.specs.Lists.{contains}
+use Rattle.octets.proofs.Tests.{is-true}
 use Rattle.records.specs.Record.{Record, follows}
 use Rattle.records.specs.Judge.{bad, good, inOrder, crossesAny}
 use Rattle.image.specs.Image.{Image, sound, defective, afterJudged, afterNext, imageFrom, startsRight, imageOf}

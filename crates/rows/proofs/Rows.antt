@@ -12,7 +12,7 @@ use Rattle.image.specs.Image.{sound, defective, afterJudged, nextOf, afterNext,
 use Rattle.image.proofs.Soundness.{not-sound}
 use Rattle.rows.specs.Entry.{Entry, entriesOf, parsedOf, rowOf}
 use Rattle.rows.specs.Good.{GoodEntry, AllGood, good-nil, good-cons}
-use Rattle.fields.proofs.Starts.{starts, no-field}
+use Rattle.fields.proofs.Starts.{starts-field, no-field}
 use Rattle.records.proofs.Judging.{judged-alone, judged-same}
 
 -- One step of the check over a row that starts with a whole field
@@ -33,12 +33,12 @@ module _ (earlier : List Record) (tag : ℕ) (contents rest : List ℕ) where
 
 module _ (e : Entry) (k : GoodEntry e) (rest : List ℕ) where
   pub entry-head : headOf (e .bytes ++ rest) ≡ field (k .tag) (k .contents) rest
-  entry-head = starts (e .bytes) (k .tag) (k .contents) [] (k .head) .followed rest
+  entry-head = starts-field (e .bytes) (k .tag) (k .contents) [] (k .head) .followed rest
 
   entry-size : length (e .bytes) ≡ sizeOf (e .bytes ++ rest)
   entry-size =
-      let x = starts (e .bytes) (k .tag) (k .contents) [] (k .head) in
-      let y = starts (e .bytes ++ rest) (k .tag) (k .contents) rest entry-head in
+      let x = starts-field (e .bytes) (k .tag) (k .contents) [] (k .head) in
+      let y = starts-field (e .bytes ++ rest) (k .tag) (k .contents) rest entry-head in
       omega (arith, x .long, y .size)
 
   pub entry-taken : take (sizeOf (e .bytes ++ rest)) (e .bytes ++ rest) ≡ e .bytes
@@ -102,7 +102,7 @@ reads (suc n) earlier records (b ∷ bs) e = by-head (headOf (b ∷ bs)) refl e 
         → afterNext earlier (afterJudged j rest) (λ r t. imageFrom n (r ∷ earlier) t) ≡ sound records → Onward → Reads (b ∷ bs) earlier records
     by-judged tag contents rest (bad d) h y z onward = absurd (not-sound _ _ records z)
     by-judged tag contents rest (good q) h y z onward =
-        let x = starts (b ∷ bs) tag contents rest h in
+        let x = starts-field (b ∷ bs) tag contents rest h in
         let w = onward q rest z in
         record {
           later = q ∷ w .later;

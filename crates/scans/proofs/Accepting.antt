@@ -4,14 +4,14 @@ use mathlib.Core.Bool.{true}
 use mathlib.Core.Path.{_≡_}
 use mathlib.Core.List.{List}
 use lib.Dec.{T}
-use Rattle.records.specs.Record.{isBlock}
+use Rattle.registry.specs.Tags.{isBlock}
 use Rattle.image.specs.Image.{imageOf}
 use Rattle.image.specs.Part.{recordsOf}
-use Rattle.image.specs.Place.{verdictOf}
+use Rattle.image.specs.Checking.{verdictOf}
 use Rattle.image.specs.declared.Verdict.the-variants.{Sound}
 use Rattle.image.proofs.Soundness.{is-sound}
-use Rattle.blocks.specs.Defects.{accepted}
-use Rattle.blocks.proofs.Families.{family-accepted}
+use Rattle.forest.specs.Defects.{accepted}
+use Rattle.forest.proofs.Families.{family-accepted}
 use Rattle.scans.specs.Standing.{blocksIn}
 
 pub blocks-accepted :

@@ -4,14 +4,14 @@ use mathlib.Core.Bool.{Bool, true, false}
 use mathlib.Core.Path.{_≡_, refl}
 use mathlib.Core.List.{List, [], _∷_, List·Memᴰ·head, List·Memᴰ·tail}
 use native.Mathlib.Omega.{arith}
-use Rattle.address.specs.Lists.{_∈_, any}
+use Rattle.octets.specs.Lists.{_∈_, any}
 use Rattle.address.specs.Ranges.{Range, strictlyInside}
-use Rattle.blocks.specs.Blocks.{Block}
-use Rattle.blocks.specs.Scans.{downPass}
-use Rattle.address.proofs.Tests.{is-false, each, any-yes}
+use Rattle.forest.specs.Blocks.{Block}
+use Rattle.forest.specs.Scans.{downPass}
+use Rattle.octets.proofs.Tests.{is-false, each, any-yes}
 use Rattle.address.proofs.Geometry.{covers-iff, strictly-iff, inside-iff}
-use Rattle.blocks.proofs.Laminar.{Laminar, cons, Before, around, left, is-proper}
-use Rattle.blocks.proofs.Select.{None}
+use Rattle.forest.proofs.Laminar.{Laminar, cons, Before, around, left, is-proper}
+use Rattle.forest.proofs.Select.{None}
 use Rattle.scans.specs.Tests.{surroundsBy}
 
 rises : {b : Block} {bs : List Block} → Laminar (b ∷ bs) → (c : Block) → c ∈ (b ∷ bs) → b .range .first ≤ c .range .first

@@ -2,8 +2,8 @@
 use Prim.Native.Nat.{ℕ}
 use mathlib.Core.List.{List}
 use Rattle.address.specs.Ranges.{Range}
-use Rattle.blocks.specs.Blocks.{Block}
-use Rattle.blocks.specs.Relations.{lookup, up, top}
+use Rattle.forest.specs.Blocks.{Block}
+use Rattle.forest.specs.Relations.{lookup, up, top}
 use Rattle.scans.specs.declared.Around.{Around}
 use Rattle.scans.specs.declared.Around.the-variants.{Lookup, Up, Top}
 

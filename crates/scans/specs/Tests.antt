@@ -5,9 +5,9 @@ use mathlib.Core.List.{List}
 use lib.Dec.{eqb, leb}
 use lib.ListN.{length}
 use Rattle.address.specs.Ranges.{Range, covers, strictlyCovers, strictlyInside}
-use Rattle.address.specs.Positions.{Wide}
-use Rattle.blocks.specs.Blocks.{Block}
-use Rattle.blocks.specs.Scans.{firstPassing, lastPassing}
+use Rattle.octets.specs.Positions.{Wide}
+use Rattle.forest.specs.Blocks.{Block}
+use Rattle.forest.specs.Scans.{firstPassing, lastPassing}
 use Rattle.scans.specs.declared.Around.{Around}
 use Rattle.scans.specs.declared.Around.the-variants.{Lookup, Up, Top}
 

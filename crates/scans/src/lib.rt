@@ -3,23 +3,28 @@
 ghost use mathlib.Core.Path.{_≡_};
 ghost use Prim.Native.Nat.{_+_, _*_, _≤_, _<_};
 ghost use lib.ListN.{length, getD};
-ghost use Rattle.address.specs.Lists.{any as «any_of»};
+ghost use Rattle.registry.specs.Tags.{rangeOffset};
+ghost use Rattle.registry.specs.Limits.{mostImage, mostRecords};
+ghost use Rattle.octets.specs.Lists.{any as «any_of»};
 ghost use Rattle.address.specs.Address.{number, numbers};
 ghost use Rattle.address.specs.Ranges.{covers as «covers_of», strictlyInside};
-ghost use Rattle.address.specs.Positions.{numberIn, rangeIn};
-ghost use Rattle.blocks.specs.Relations.{down as «down_of»};
+ghost use Rattle.octets.specs.Positions.{numberIn};
+ghost use Rattle.address.specs.Positions.{rangeIn};
+ghost use Rattle.forest.specs.Relations.{down as «down_of»};
 ghost use Rattle.scans.specs.Around.{aroundIn};
-ghost use Rattle.scans.specs.Standing.{blocksIn, Asked};
-ghost use Rattle.listing.specs.Listing.{foundNumbers, Collected};
+ghost use Rattle.scans.specs.Standing.{blocksIn, Searchable};
+ghost use Rattle.output.specs.Listing.{foundNumbers, Collected};
 ghost use Rattle.scans.specs.Tests.{Comparable, surroundsBy, freeAfter, keepsFrom, strictBy, firstBy};
-use address::Range;
+use address::AddressRange;
 use address::at_least_at;
 use address::at_most_at;
 use image::Run;
-use listing::Found;
+use output::Found;
+use registry::PerRecord;
+use registry::RANGE_OFFSET;
 
 // Whether the block's range at a position covers the range.
-fn covers(image: &[u8], at: usize, width: usize, range: Range) -> bool
+fn covers(image: &[u8], at: usize, width: usize, range: AddressRange) -> bool
     requires { ⌜ Comparable (now image) at width ⌝ }
     ensures { λ r. ⌜ r ≡ «covers_of» (rangeIn (now (image .entry)) at width) (numbers range) ⌝ }
 {
@@ -30,7 +35,7 @@ fn covers(image: &[u8], at: usize, width: usize, range: Range) -> bool
 }
 
 // Whether it lies inside the range.
-fn inside(image: &[u8], at: usize, width: usize, range: Range) -> bool
+fn inside(image: &[u8], at: usize, width: usize, range: AddressRange) -> bool
     requires { ⌜ Comparable (now image) at width ⌝ }
     ensures { λ r. ⌜ r ≡ «covers_of» (numbers range) (rangeIn (now (image .entry)) at width) ⌝ }
 {
@@ -41,7 +46,7 @@ fn inside(image: &[u8], at: usize, width: usize, range: Range) -> bool
 }
 
 // Whether it lies inside and differs.
-fn strictly_inside(image: &[u8], at: usize, width: usize, range: Range) -> bool
+fn strictly_inside(image: &[u8], at: usize, width: usize, range: AddressRange) -> bool
     requires { ⌜ Comparable (now image) at width ⌝ }
     ensures { λ r. ⌜ r ≡ strictlyInside (rangeIn (now (image .entry)) at width) (numbers range) ⌝ }
 {
@@ -52,7 +57,7 @@ fn strictly_inside(image: &[u8], at: usize, width: usize, range: Range) -> bool
 }
 
 // Whether it is around the range, strictly or not. It does not begin after the range's first.
-fn surrounds(image: &[u8], at: usize, width: usize, range: Range, strict: bool) -> bool
+fn surrounds(image: &[u8], at: usize, width: usize, range: AddressRange, strict: bool) -> bool
     requires { ⌜ Comparable (now image) at width × (numberIn (now image) at width ≤ number (range .first)) ⌝ }
     ensures { λ r. ⌜ r ≡ surroundsBy strict (rangeIn (now (image .entry)) at width) (numbers range) ⌝ }
 {
@@ -66,7 +71,7 @@ fn surrounds(image: &[u8], at: usize, width: usize, range: Range, strict: bool) 
 }
 
 // Whether it is strictly inside the range and begins after the last of the n blocks kept before it, whose range is at kept.
-fn keeps(image: &[u8], at: usize, width: usize, range: Range, n: usize, kept: usize) -> bool
+fn keeps(image: &[u8], at: usize, width: usize, range: AddressRange, n: usize, kept: usize) -> bool
     requires { ⌜ Comparable (now image) at width × (0 < n → kept + 2 * width ≤ length (now image)) ⌝ }
     ensures { λ r. ⌜ r ≡ keepsFrom (freeAfter n (numberIn (now (image .entry)) (kept + width) width))
         (rangeIn (now (image .entry)) at width) (numbers range) ⌝ }
@@ -77,15 +82,15 @@ fn keeps(image: &[u8], at: usize, width: usize, range: Range, n: usize, kept: us
     if n == 0 {
         return true;
     }
-    !address::numbers_at_most(image, at, image, kept + width, width)
+    !words::numbers_at_most(image, at, image, kept + width, width)
 }
 
 // Where the range of a block starts, by its record number.
-pub fn range_start(places: &[u32; 4096], number: u32) -> usize
-    requires { ⌜ (number < 4096) × (getD (now places) number 0 ≤ 262144) ⌝ }
-    ensures { λ r. ⌜ r ≡ getD (now (places .entry)) number 0 + 6 ⌝ }
+pub fn range_start(starts: &PerRecord, number: u32) -> usize
+    requires { ⌜ (number < mostRecords) × (getD (now starts) number 0 ≤ mostImage) ⌝ }
+    ensures { λ r. ⌜ r ≡ getD (now (starts .entry)) number 0 + rangeOffset ⌝ }
 {
-    places[number as usize] as usize + 6
+    starts[number as usize] as usize + RANGE_OFFSET
 }
 
 // Which of the blocks around a range is asked: the last that covers it, the last strictly around it, or the first such.
@@ -120,21 +125,21 @@ fn is_first(which: Around) -> bool
 // Lookup, up and top: one block around the range, or none.
 pub fn find_around(
     image: &[u8],
-    places: &[u32; 4096],
+    starts: &PerRecord,
     blocks: Run,
-    range: Range,
+    range: AddressRange,
     which: Around,
 ) -> Found
-    requires { ⌜ Asked (now image) (now places) blocks range ⌝ }
-    ensures { λ r. ⌜ foundNumbers r ≡ aroundIn which (blocksIn (now (image .entry)) (blocks .first)) (numbers range) ⌝ }
+    requires { ⌜ Searchable (now image) (now starts) blocks range ⌝ }
+    ensures { λ r. ⌜ foundNumbers r ≡ aroundIn which (blocksIn (now (image .entry)) (blocks .low)) (numbers range) ⌝ }
 {
-    let width = records::width_of(blocks.first);
+    let width = registry::width_of(blocks.low);
     let strict = is_strict(which);
     let first = is_first(which);
     let mut found = Found::Nothing;
     let mut i = blocks.from;
     while i < blocks.until {
-        let at = range_start(places, i);
+        let at = range_start(starts, i);
         if !at_least_at(range.first, image, at, width) {
             return found;
         }
@@ -152,20 +157,20 @@ pub fn find_around(
 // Down: the blocks strictly inside the range, without those inside the last one kept.
 pub fn children(
     image: &[u8],
-    places: &[u32; 4096],
+    starts: &PerRecord,
     blocks: Run,
-    range: Range,
-    hits: &mut [u32; 4096],
+    range: AddressRange,
+    hits: &mut PerRecord,
 ) -> usize
-    requires { ⌜ Asked (now image) (now places) blocks range × (length (now hits) ≡ 4096) ⌝ }
-    ensures { λ r. ⌜ Collected (now (hits .exit)) («down_of» (blocksIn (now (image .entry)) (blocks .first)) (numbers range)) r ⌝ }
+    requires { ⌜ Searchable (now image) (now starts) blocks range × (length (now hits) ≡ mostRecords) ⌝ }
+    ensures { λ r. ⌜ Collected (now (hits .exit)) («down_of» (blocksIn (now (image .entry)) (blocks .low)) (numbers range)) r ⌝ }
 {
-    let width = records::width_of(blocks.first);
+    let width = registry::width_of(blocks.low);
     let mut n: usize = 0;
     let mut kept: usize = 0;
     let mut i = blocks.from;
     while i < blocks.until {
-        let at = range_start(places, i);
+        let at = range_start(starts, i);
         if !at_least_at(range.last, image, at, width) {
             return n;
         }
@@ -180,14 +185,14 @@ pub fn children(
 }
 
 // Whether some block is strictly inside the range.
-pub fn any_inside(image: &[u8], places: &[u32; 4096], blocks: Run, range: Range) -> bool
-    requires { ⌜ Asked (now image) (now places) blocks range ⌝ }
-    ensures { λ r. ⌜ r ≡ «any_of» (λ b. strictlyInside (b .range) (numbers range)) (blocksIn (now (image .entry)) (blocks .first)) ⌝ }
+pub fn any_inside(image: &[u8], starts: &PerRecord, blocks: Run, range: AddressRange) -> bool
+    requires { ⌜ Searchable (now image) (now starts) blocks range ⌝ }
+    ensures { λ r. ⌜ r ≡ «any_of» (λ b. strictlyInside (b .range) (numbers range)) (blocksIn (now (image .entry)) (blocks .low)) ⌝ }
 {
-    let width = records::width_of(blocks.first);
+    let width = registry::width_of(blocks.low);
     let mut i = blocks.from;
     while i < blocks.until {
-        let start = range_start(places, i);
+        let start = range_start(starts, i);
         if !at_least_at(range.last, image, start, width) {
             return false;
         }

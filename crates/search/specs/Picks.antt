@@ -2,13 +2,13 @@
 use Prim.Native.Nat.{ℕ}
 use mathlib.Core.List.{List}
 use mathlib.Core.Bool.{Bool, _&&_}
-use Rattle.address.specs.Lists.{within}
+use Rattle.octets.specs.Lists.{within}
 use Rattle.pattern.specs.Pattern.{matchesForm}
 use Rattle.pattern.specs.declared.Form.{Form}
 use Rattle.records.specs.Record.{Record}
 use Rattle.image.specs.Part.{contentsOf}
-use Rattle.image.specs.declared.Which.{Which}
+use Rattle.registry.specs.declared.Part.{Part}
 
 -- a tag from first to last, and a part of the record that matches; fold says whether case is folded
-abbrev pub picksRecord : ℕ → ℕ → Which → Bool → Form → List ℕ → Record → Bool
-picksRecord first last which fold form pattern r = within first last (r .tag) && matchesForm fold form pattern (contentsOf which r)
+abbrev pub picksRecord : ℕ → ℕ → Part → Bool → Form → List ℕ → Record → Bool
+picksRecord low high which fold form pattern r = within low high (r .tag) && matchesForm fold form pattern (contentsOf which r)

@@ -14,9 +14,9 @@ ghost use lib.ListN.{length};
 use ip::Family;
 use libc::STDIN_FILENO;
 use libc::STDOUT_FILENO;
-use name::Text;
 use numeral::Number;
 use pattern::Form;
+use registry::Text;
 use segment::NameRead;
 use segment::TargetRead;
 

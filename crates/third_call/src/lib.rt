@@ -7,31 +7,34 @@ ghost use Rattle.answers.specs.Answered.{Answered};
 ghost use Rattle.calls.specs.Calls.{blockFirst, ofBlock};
 use answers::Answer;
 use query::Kind;
-use query::Relation;
+use registry::AS_BLOCK;
+use registry::PerRecord;
+use registry::RANGE_OFFSET;
+use registry::Relation;
 
 // The third call on a sound image.
 pub fn relation(
     image: &[u8],
-    places: &[u32; 4096],
+    starts: &PerRecord,
     count: u32,
     record_number: u32,
     relation: Relation,
     list: &mut [u32],
 ) -> Answer
-    requires { ⌜ Indexed (now image) count (now places) ⌝ }
+    requires { ⌜ Indexed (now image) count (now starts) ⌝ }
     ensures { λ r. ⌜ Answered (ofBlock relation (blockFirst (drop record_number (recordsOf (imageOf (now (image .entry)))))) (recordsOf (imageOf (now (image .entry)))) (length (now (list .entry)))) r (now (list .entry)) (now (list .exit)) ⌝ }
 {
     let kind = Kind::Relation(relation);
     if count <= record_number {
         return answers::reply(8, kind, 0);
     }
-    let at = places[record_number as usize] as usize;
+    let at = starts[record_number as usize] as usize;
     let tag = image[at];
-    if 0x12 < tag {
+    if AS_BLOCK < tag {
         return answers::reply(8, kind, 0);
     }
-    let range = address::range_at(image, at + 6, records::width_of(tag));
+    let range = address::range_at(image, at + RANGE_OFFSET, registry::width_of(tag));
     let what = calls::finding_of(relation);
-    let listed = relations::find(image, places, count, what, tag, range, list);
+    let listed = relations::find(image, starts, count, what, tag, range, list);
     answers::reported(kind, listed)
 }

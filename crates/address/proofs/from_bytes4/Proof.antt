@@ -2,7 +2,7 @@
 use mathlib.Core.Path.{_∙_, ap}
 use native.Mathlib.Omega.{arith}
 use lib.Seq.{take-all}
-use Rattle.address.specs.Number.{value}
+use Rattle.octets.specs.Number.{value}
 use Rattle.address.specs.Address.{number, number-at}
 use borrow.Author.Needs.{needs}
 use Rattle.address.proofs.from_bytes4.Statement.{statement}

@@ -1,5 +1,5 @@
 -- The four digits to the base 256 give the number back.
-use Rattle.address.specs.Number.{value, valueFrom}
+use Rattle.octets.specs.Number.{value, valueFrom}
 use borrow.Author.Needs.{needs}
 use Rattle.address.proofs.from_number.Statement.{statement}
 use Rattle.address.proofs.from_number.Tie as tie

@@ -2,7 +2,7 @@
 use mathlib.Core.Path.{_≡_, _∙_}
 use native.Mathlib.Omega.{arith}
 use lib.ListN.{length}
-use Rattle.address.proofs.Digits.{number-whole}
+use Rattle.octets.proofs.Digits.{number-whole}
 use borrow.Author.Needs.{needs}
 use Rattle.address.proofs.words_of.Statement.{statement}
 use Rattle.address.proofs.words_of.Tie as tie

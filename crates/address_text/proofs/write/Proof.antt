@@ -4,8 +4,8 @@ use mathlib.Core.List.{List}
 use mathlib.Core.Logic.{⊎-elim}
 use native.Mathlib.Omega.{arith}
 use lib.ListN.{length}
-use Rattle.address.specs.Number.{Bytes}
-use Rattle.listing.proofs.Writing.{written-over, all-put, nothing-put}
+use Rattle.octets.specs.Number.{Bytes}
+use Rattle.output.proofs.Writing.{written-over, all-put, nothing-put}
 use Rattle.ip_text.specs.Text.{textOf}
 use Rattle.ip_text.proofs.Lengths.{text-most, text-most4, text-most16}
 use Rattle.address_text.proofs.Answers.{told}

@@ -1,4 +1,4 @@
--- The record by its place in the change file, put where its rank is (Applying.antt).
+-- The record by its start in the change file, put where its rank is (Applying.antt).
 use borrow.Author.Needs.{needs}
 use mathlib.Core.Path.{_≡_, refl, sym, _∙_, ap, subst}
 use mathlib.Core.List.{List}
@@ -14,7 +14,7 @@ use Rattle.rows.specs.Entry.{Entry}
 use Rattle.changes.specs.Change as Changes
 use Rattle.changes.specs.Change.{applied}
 use Rattle.merged.proofs.Known.{known, key-read}
-use Rattle.applying.proofs.Applying.{record-place, add-there, add-here, add-place}
+use Rattle.applying.proofs.Applying.{record-start, add-there, add-here, add-start}
 use Rattle.applying.proofs.add.Statement.{statement}
 use Rattle.applying.proofs.add.Tie as tie
 
@@ -43,10 +43,10 @@ same k x e =
     let a = start k in
     ap (λ (s : List ℕ). applied (Changes.add (entryOf s)) (entriesAt (now (a .args .image)) (now (a .args .changes)) (take (a .args .n) (now (a .args .index))))) (sym (part (k .before .before .before .before))) ∙ e
 
-place : (k : tie.After-key-of) → bytesAt (now (start k .args .image)) (now (start k .args .changes)) (262144 + start k .args .start) ≡ take (start k .args .end - start k .args .start) (drop (start k .args .start) (now (start k .args .changes)))
-place k =
+stands-at : (k : tie.After-key-of) → bytesAt (now (start k .args .image)) (now (start k .args .changes)) (262144 + start k .args .start) ≡ take (start k .args .end - start k .args .start) (drop (start k .args .start) (now (start k .args .changes)))
+stands-at k =
     let a = start k in
-    record-place (now (a .args .image)) (now (a .args .changes)) (a .args .start) (a .args .end) (a .pre .2) (a .pre .3) (a .pre .6) ∙ sym (part (k .before .before .before .before))
+    record-start (now (a .args .image)) (now (a .args .changes)) (a .args .start) (a .args .end) (a .pre .2) (a .pre .3) (a .pre .6) ∙ sym (part (k .before .before .before .before))
 
 key : (k : tie.After-key-of) → Key (getD (take (start k .args .end - start k .args .start) (drop (start k .args .start) (now (start k .args .changes)))) 0 0) (now (k .key-of .result))
 key k = key-read _ (whole (k .before .before .before .before)) _ _ refl (k .key-of .ensures)
@@ -86,14 +86,14 @@ insert-at-requires c κs =
     let e = c .before .before in
     let k = e .before .before .before .before in
     let a = start k in
-    (a .pre .0, a .pre .1, add-place _ _ _ (a .args .n) (omega (arith, a .pre .0, a .pre .1)) (a .pre .5) _ (whole (k .before .before .before .before)) _ _ refl (k .key-of .ensures) _ (e .before .before .rank .ensures))
+    (a .pre .0, a .pre .1, add-start _ _ _ (a .args .n) (omega (arith, a .pre .0, a .pre .1)) (a .pre .5) _ (whole (k .before .before .before .before)) _ _ refl (k .key-of .ensures) _ (e .before .before .rank .ensures))
 
 returns-2 : tie.Need-returns-2
 returns-2 c =
     let e = c .before .before .before in
     let k = e .before .before .before .before in
     let a = start k in
-    (same k _ (add-here _ _ _ (a .args .n) (omega (arith, a .pre .0, a .pre .1)) (a .pre .5) _ (whole (k .before .before .before .before)) _ _ refl (k .key-of .ensures) _ (e .is-there .ensures) (c .before .before .if1 .left) _ (e .before .before .rank .ensures) (262144 + a .args .start) (place k) _ (c .insert-at .ensures .0)), c .insert-at .ensures .1)
+    (same k _ (add-here _ _ _ (a .args .n) (omega (arith, a .pre .0, a .pre .1)) (a .pre .5) _ (whole (k .before .before .before .before)) _ _ refl (k .key-of .ensures) _ (e .is-there .ensures) (c .before .before .if1 .left) _ (e .before .before .rank .ensures) (262144 + a .args .start) (stands-at k) _ (c .insert-at .ensures .0)), c .insert-at .ensures .1)
 
 pub add-spec : {M : Type 1} → statement M
 add-spec =

@@ -14,11 +14,11 @@ use Rattle.applying.proofs.apply.Statement.{statement}
 use Rattle.applying.proofs.apply.Tie as tie
 
 abbrev Inv-loop : tie.InvT-loop
-Inv-loop image changes index₀ count places₀ n₀ at₀ index places n at =
-    Reached image changes (entriesAt image changes (take count index₀)) index n at × (length places ≡ 4096)
+Inv-loop image changes index₀ count starts₀ n₀ at₀ index starts n at =
+    Reached image changes (entriesAt image changes (take count index₀)) index n at × (length starts ≡ 4096)
 
 abbrev μ-loop : tie.MeasureT-loop
-μ-loop image changes index₀ count places₀ n₀ at₀ index places n at = length changes - at
+μ-loop image changes index₀ count starts₀ n₀ at₀ index starts n at = length changes - at
 
 loop-holds : tie.Need-loop-holds Inv-loop μ-loop
 loop-holds c = let a = c .before .before in (reach-start _ _ _ _ (a .pre .0) (a .pre .1) (a .pre .3), a .pre .4)

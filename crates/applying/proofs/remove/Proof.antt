@@ -14,7 +14,7 @@ use Rattle.rows.specs.Entry.{Entry}
 use Rattle.changes.specs.Change as Changes
 use Rattle.changes.specs.Change.{keyed, applied}
 use Rattle.merged.specs.Held.{entriesAt, Key}
-use Rattle.applying.proofs.Applying.{remove-absent, remove-place, remove-here}
+use Rattle.applying.proofs.Applying.{remove-absent, remove-start, remove-here}
 use Rattle.applying.proofs.remove.Statement.{statement}
 use Rattle.applying.proofs.remove.Tie as tie
 
@@ -72,14 +72,14 @@ remove-at-requires c κs =
     let e = c .before .before in
     let k = e .before .before .before .before in
     let a = start k in
-    (a .pre .0, a .pre .1, remove-place _ _ _ (a .args .n) (omega (arith, a .pre .0, a .pre .1)) (a .pre .4) _ _ (e .is-there .ensures) (c .before .if1 .left) _ (e .before .before .rank .ensures))
+    (a .pre .0, a .pre .1, remove-start _ _ _ (a .args .n) (omega (arith, a .pre .0, a .pre .1)) (a .pre .4) _ _ (e .is-there .ensures) (c .before .if1 .left) _ (e .before .before .rank .ensures))
 
 returns-2 : tie.Need-returns-2
 returns-2 c =
     let e = c .before .before .before in
     let k = e .before .before .before .before in
     let a = start k in
-    let f = remove-place _ _ _ (a .args .n) (omega (arith, a .pre .0, a .pre .1)) (a .pre .4) _ _ (e .is-there .ensures) (c .before .before .if1 .left) _ (e .before .before .rank .ensures) in
+    let f = remove-start _ _ _ (a .args .n) (omega (arith, a .pre .0, a .pre .1)) (a .pre .4) _ _ (e .is-there .ensures) (c .before .before .if1 .left) _ (e .before .before .rank .ensures) in
     (same k _ (remove-here _ _ _ (a .args .n) (omega (arith, a .pre .0, a .pre .1)) (a .pre .4) _ _ (e .is-there .ensures) (c .before .before .if1 .left) _ (e .before .before .rank .ensures) _ (c .remove-at .ensures .0)), (λ z. omega (arith, f)), c .remove-at .ensures .1)
 
 pub remove-spec : {M : Type 1} → statement M

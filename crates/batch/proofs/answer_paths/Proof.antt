@@ -5,16 +5,16 @@ use lib.ListN.{length}
 use denote.Ref.{now}
 use borrow.Author.Needs.{needs}
 use Rattle.image.specs.Image.{imageOf}
-use Rattle.listing.proofs.Writing.{rest-length}
+use Rattle.output.proofs.Writing.{rest-length}
 use Rattle.batch.proofs.Answering.{line-in-rest, SoFar, nothing-yet, kept-length, all-answered, none-fits, path-left, next-fits, one-more}
 use Rattle.batch.proofs.answer_paths.Statement.{statement}
 use Rattle.batch.proofs.answer_paths.Tie as tie
 
 abbrev Inv-loop : tie.InvT-loop
-Inv-loop text image places count list₀ answered₀ start₀ at₀ list answered start at = SoFar (imageOf image) text list₀ list answered start at
+Inv-loop text image starts count list₀ answered₀ start₀ at₀ list answered start at = SoFar (imageOf image) text list₀ list answered start at
 
 abbrev μ-loop : tie.MeasureT-loop
-μ-loop text image places count list₀ answered₀ start₀ at₀ list answered start at = length text + 1 - start
+μ-loop text image starts count list₀ answered₀ start₀ at₀ list answered start at = length text + 1 - start
 
 loop-holds : tie.Need-loop-holds Inv-loop μ-loop
 loop-holds c =

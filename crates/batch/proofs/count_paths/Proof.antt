@@ -5,7 +5,7 @@ use mathlib.Core.Path.{_≡_, ap}
 use native.Mathlib.Omega.{arith}
 use lib.ListN.{length}
 use denote.Ref.{now}
-use Rattle.path.specs.Places.{piecesFrom}
+use Rattle.path.specs.Positions.{piecesFrom}
 use Rattle.path.proofs.Among.{from-start, from-end}
 use Rattle.batches.specs.Batch.{pathsOf}
 use Rattle.batch.proofs.count_paths.Statement.{statement}

@@ -4,7 +4,7 @@ use lib.ListN.{length-set}
 use denote.Ref.{now}
 use Rattle.answers.specs.Reply.{line}
 use Rattle.answers.specs.Answered.{replyOf}
-use Rattle.listing.proofs.Writing.{four-set}
+use Rattle.output.proofs.Writing.{four-set}
 use borrow.Author.Needs.{needs}
 use Rattle.batch.proofs.write_head.Statement.{statement}
 use Rattle.batch.proofs.write_head.Tie as tie

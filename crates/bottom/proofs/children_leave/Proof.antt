@@ -5,8 +5,8 @@ use native.Mathlib.Omega.{arith}
 use lib.ListN.{getD}
 use denote.Ref.{now}
 use borrow.Author.Tests.{not-true, not-false, leb-false}
-use Rattle.address.specs.Words.{numberOf}
-use Rattle.blocks.specs.Scans.{gapPass}
+use Rattle.octets.specs.Words.{numberOf}
+use Rattle.forest.specs.Scans.{gapPass}
 use Rattle.scans.specs.Standing.{blocksIn}
 use Rattle.links.specs.Links.{nth}
 use Rattle.bottom.proofs.Carry.{room}
@@ -17,11 +17,11 @@ use Rattle.bottom.proofs.children_leave.Statement.{statement}
 use Rattle.bottom.proofs.children_leave.Tie as tie
 
 abbrev Inv-loop : tie.InvT-loop
-Inv-loop image family starts links n i free₀ limit width end j₀ free j =
+Inv-loop image family firsts links n i free₀ limit width end j₀ free j =
     Walking image family i (gapPass (nth (blocksIn image family) i .range) (numberOf free₀) (numberOf limit) (blocksIn image family)) j end (numberOf free) (numberOf limit)
 
 abbrev μ-loop : tie.MeasureT-loop
-μ-loop image family starts links n i free₀ limit width end j₀ free j = end - j
+μ-loop image family firsts links n i free₀ limit width end j₀ free j = end - j
 
 module _ (c : tie.Start Inv-loop μ-loop) where
   limit-high : c .args .limit .high < 18446744073709551616

@@ -6,8 +6,8 @@ use mathlib.Core.List.{_++_, append-nil}
 use native.Mathlib.Omega.{arith}
 use lib.ListN.{length, take, drop}
 use Rattle.address.specs.Address.{numbers}
-use Rattle.blocks.specs.Relations.{select}
-use Rattle.blocks.specs.Scans.{gapIn}
+use Rattle.forest.specs.Relations.{select}
+use Rattle.forest.specs.Scans.{gapIn}
 use Rattle.scans.specs.Standing.{blocksIn}
 use Rattle.bottom.proofs.Tests.{none-left}
 use Rattle.bottom.proofs.Picks.{pick, pass, select-nil}
@@ -16,7 +16,7 @@ use Rattle.bottom.proofs.holders.Statement.{statement}
 use Rattle.bottom.proofs.holders.Tie as tie
 
 abbrev Inv-loop : tie.InvT-loop
-Inv-loop image family from starts n range hits₀ links m₀ i₀ hits m i =
+Inv-loop image family from firsts n range hits₀ links m₀ i₀ hits m i =
     (i ≤ n)
     × (m ≤ i)
     × (length hits ≡ 4096)
@@ -24,7 +24,7 @@ Inv-loop image family from starts n range hits₀ links m₀ i₀ hits m i =
     ≡ select (λ b. gapIn (blocksIn image family) (numbers range) (b .range)) (blocksIn image family))
 
 abbrev μ-loop : tie.MeasureT-loop
-μ-loop image family from starts n range hits₀ links m₀ i₀ hits m i = n - i
+μ-loop image family from firsts n range hits₀ links m₀ i₀ hits m i = n - i
 
 links-of-requires : tie.Need-links-of-requires Inv-loop μ-loop
 links-of-requires c κs = c .before .pre .0

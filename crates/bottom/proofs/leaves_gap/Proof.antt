@@ -2,9 +2,9 @@
 use mathlib.Core.Path.{_≡_, sym, _∙_}
 use native.Mathlib.Omega.{arith}
 use borrow.Author.Tests.{not-true, not-false, leb-true}
-use Rattle.address.specs.Words.{numberOf}
+use Rattle.octets.specs.Words.{numberOf}
 use Rattle.address.specs.Address.{numbers}
-use Rattle.blocks.specs.Scans.{gapPass, gapIn}
+use Rattle.forest.specs.Scans.{gapPass, gapIn}
 use Rattle.scans.specs.Standing.{blocksIn}
 use Rattle.links.specs.Links.{nth}
 use Rattle.bottom.proofs.Tests.{comparable-at}

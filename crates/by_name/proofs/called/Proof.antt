@@ -1,6 +1,6 @@
 -- What was sought is reported.
 use borrow.Author.Needs.{needs}
-use Rattle.listing.proofs.Reports.{same-reported}
+use Rattle.output.proofs.Reports.{same-reported}
 use Rattle.by_name.proofs.called.Statement.{statement}
 use Rattle.by_name.proofs.called.Tie as tie
 

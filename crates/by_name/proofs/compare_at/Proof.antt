@@ -4,7 +4,7 @@ use mathlib.Core.List.{List}
 use Prim.Native.Nat.{ℕ}
 use borrow.Author.Needs.{needs}
 use denote.Ref.{now}
-use Rattle.address.specs.Order.{compared}
+use Rattle.octets.specs.Order.{compared}
 use Rattle.by_name.proofs.compare_at.Statement.{statement}
 use Rattle.by_name.proofs.compare_at.Tie as tie
 

@@ -4,7 +4,7 @@ use mathlib.Core.Path.{_≡_, sym, _∙_}
 use native.Mathlib.Omega.{arith}
 use denote.Ref.{now}
 use borrow.Author.Needs.{needs}
-use Rattle.address.proofs.Order.{told-first, told-second, told-equal}
+use Rattle.octets.proofs.Order.{told-first, told-second, told-equal}
 use Rattle.image.specs.Index.{Selected}
 use Rattle.entries.proofs.Halves.{Sorted, Halved, halve-none, halve-up, halve-down}
 use Rattle.search.proofs.Picks.{few, in-image, text-inside}
@@ -13,11 +13,11 @@ use Rattle.by_name.proofs.seek.Statement.{statement}
 use Rattle.by_name.proofs.seek.Tie as tie
 
 abbrev Inv-loop : tie.InvT-loop
-Inv-loop image places wanted which low₀ high₀ steps₀ low high steps =
-    Halved (Before image places which wanted) (Behind image places which wanted) low₀ high₀ low high × Left steps (high - low)
+Inv-loop image starts wanted which low₀ high₀ steps₀ low high steps =
+    Halved (Before image starts which wanted) (Behind image starts which wanted) low₀ high₀ low high × Left steps (high - low)
 
 abbrev μ-loop : tie.MeasureT-loop
-μ-loop image places wanted which low₀ high₀ steps₀ low high steps = high - low
+μ-loop image starts wanted which low₀ high₀ steps₀ low high steps = high - low
 
 which-of-requires : tie.Need-which-of-requires Inv-loop μ-loop
 which-of-requires c κs = search needs
@@ -30,7 +30,7 @@ loop-holds c =
 -- the record in the middle is one of the run
 chosen :
     (c : tie.After-middle Inv-loop μ-loop)
-    → let a = c .before .before .before .before .before .before .args in Selected (now (a .image)) (now (a .places)) (a .run)
+    → let a = c .before .before .before .before .before .before .args in Selected (now (a .image)) (now (a .starts)) (a .run)
 chosen c = c .before .before .before .before .before .before .pre .0
 
 in-run : (c : tie.After-middle Inv-loop μ-loop) → c .middle .result < c .before .before .before .before .before .before .args .run .until
@@ -40,7 +40,7 @@ order :
     (c : tie.After-middle Inv-loop μ-loop)
     → let a = c .before .before .before .before .before .before .args in
     let which = c .before .before .before .which-of .result in
-    Sorted (Before (now (a .image)) (now (a .places)) which (now (a .wanted))) (Behind (now (a .image)) (now (a .places)) which (now (a .wanted))) (a .run .from) (a .run .until)
+    Sorted (Before (now (a .image)) (now (a .starts)) which (now (a .wanted))) (Behind (now (a .image)) (now (a .starts)) which (now (a .wanted))) (a .run .from) (a .run .until)
 order c =
     let start = c .before .before .before .before .before .before in
     keys-sorted (start .pre .0) (start .pre .1) _ (c .before .before .before .which-of .ensures) (now (start .args .wanted))

@@ -8,18 +8,18 @@ use native.Mathlib.Omega.{arith}
 use lib.ListN.{length, take, length-set}
 use denote.Ref.{now}
 use Rattle.image.specs.Index.{Selected}
-use Rattle.listing.proofs.Emit.{one-more}
+use Rattle.output.proofs.Emit.{one-more}
 use Rattle.search.proofs.Picks.{few, in-image, text-inside, foundFrom, turn, before-run, all-found}
 use Rattle.by_pattern.proofs.collect.Statement.{statement}
 use Rattle.by_pattern.proofs.collect.Tie as tie
 
 abbrev Inv-loop : tie.InvT-loop
-Inv-loop image places run which fold form pattern hits₀ n₀ i₀ hits n i =
+Inv-loop image starts run which fold form pattern hits₀ n₀ i₀ hits n i =
     (length hits ≡ 4096) × (run .from ≤ i) × (i ≤ run .until) × (n ≤ i)
     × (take n hits ++ foundFrom image run which fold form pattern i ≡ foundFrom image run which fold form pattern 0)
 
 abbrev μ-loop : tie.MeasureT-loop
-μ-loop image places run which fold form pattern hits₀ n₀ i₀ hits n i = run .until - i
+μ-loop image starts run which fold form pattern hits₀ n₀ i₀ hits n i = run .until - i
 
 loop-holds : tie.Need-loop-holds Inv-loop μ-loop
 loop-holds c =
@@ -30,7 +30,7 @@ loop-holds c =
 -- the run, at a turn
 chosen :
     (c : tie.Then1 Inv-loop μ-loop)
-    → let a = c .before .before .before .before .before .args in Selected (now (a .image)) (now (a .places)) (a .run)
+    → let a = c .before .before .before .before .before .args in Selected (now (a .image)) (now (a .starts)) (a .run)
 chosen c = c .before .before .before .before .before .pre .0
 
 cast-at : tie.Need-cast-at Inv-loop μ-loop

@@ -1,6 +1,6 @@
 -- What was collected is reported.
 use borrow.Author.Needs.{needs}
-use Rattle.listing.proofs.Reports.{in-hits, as-many, few-reported, reported}
+use Rattle.output.proofs.Reports.{in-hits, as-many, few-reported, reported}
 use Rattle.by_pattern.proofs.list_picked.Statement.{statement}
 use Rattle.by_pattern.proofs.list_picked.Tie as tie
 

@@ -6,8 +6,8 @@ use native.Mathlib.Omega.{arith}
 use lib.ListN.{length, drop, getD}
 use Rattle.numeral.specs.Digits.{following}
 use Rattle.digits.specs.Base.{radix}
-use Rattle.listing.specs.Writing.{Reached}
-use Rattle.listing.proofs.Writing.{rest-length, at-start, kept-length, part-fits, next-part, at-end}
+use Rattle.output.specs.Writing.{Reached}
+use Rattle.output.proofs.Writing.{rest-length, at-start, kept-length, part-fits, next-part, at-end}
 use Rattle.digits.proofs.Following.{next-number, no-number}
 use borrow.Author.Needs.{needs}
 use Rattle.digits.proofs.put_following.Statement.{statement}

@@ -4,7 +4,7 @@ use native.Mathlib.Omega.{arith}
 use lib.ListN.{length, length-set}
 use Rattle.digits.specs.Base.{radix}
 use Rattle.numeral.proofs.Spelled.{following-one}
-use Rattle.listing.proofs.Writing.{written-nothing, written-one, written-both, rest-length}
+use Rattle.output.proofs.Writing.{written-nothing, written-one, written-both, rest-length}
 use borrow.Author.Needs.{needs}
 use Rattle.digits.proofs.put_next.Statement.{statement}
 use Rattle.digits.proofs.put_next.Tie as tie

@@ -1,8 +1,8 @@
 -- The first number, and the others in the rest of the buffer, each after a separator.
 use native.Mathlib.Omega.{arith}
-use Rattle.pieces.proofs.Pieces.{rest-is}
+use Rattle.octets.proofs.Pieces.{rest-is}
 use Rattle.digits.specs.Base.{radix}
-use Rattle.listing.proofs.Writing.{written-nothing, written-both, rest-length}
+use Rattle.output.proofs.Writing.{written-nothing, written-both, rest-length}
 use Rattle.digits.proofs.Following.{spelled-none, spelled-first, length-first}
 use borrow.Author.Needs.{needs}
 use Rattle.digits.proofs.put_spelled.Statement.{statement}

@@ -1,6 +1,6 @@
 -- The field that is read at the position has the part (Spans.antt).
 use borrow.Author.Needs.{needs}
-use Rattle.image.specs.declared.Which.the-variants.{Range, Handle, Name}
+use Rattle.registry.specs.declared.Part.the-variants.{Range, Handle, Name}
 use Rattle.entries.proofs.Spans.{no-contents, contents-read, end-inside}
 use Rattle.entries.proofs.contents_span.Statement.{statement}
 use Rattle.entries.proofs.contents_span.Tie as tie

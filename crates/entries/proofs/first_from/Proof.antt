@@ -5,17 +5,17 @@ use lib.ListN.{length, getD}
 use denote.Ref.{now}
 use borrow.Author.Needs.{needs}
 use Rattle.image.proofs.Soundness.{few-records, few-bytes}
-use Rattle.entries.proofs.Standing.{tag-here, place-inside}
+use Rattle.entries.proofs.Standing.{tag-here, start-inside}
 use Rattle.entries.proofs.Halves.{Halved, halve-none, halve-up, halve-down}
 use Rattle.entries.proofs.Tags.{below, notBelow, tags-sorted, first-found}
 use Rattle.entries.proofs.first_from.Statement.{statement}
 use Rattle.entries.proofs.first_from.Tie as tie
 
 abbrev Inv-loop : tie.InvT-loop
-Inv-loop image places count tag low₀ high₀ low high = Halved (below image tag) (notBelow image tag) 0 count low high
+Inv-loop image starts count tag low₀ high₀ low high = Halved (below image tag) (notBelow image tag) 0 count low high
 
 abbrev μ-loop : tie.MeasureT-loop
-μ-loop image places count tag low₀ high₀ low high = high - low
+μ-loop image starts count tag low₀ high₀ low high = high - low
 
 loop-holds : tie.Need-loop-holds Inv-loop μ-loop
 loop-holds c = halve-none (omega arith)
@@ -26,13 +26,13 @@ middle-requires c κs = search needs
 cast-if1 : tie.Need-cast-if1 Inv-loop μ-loop
 cast-if1 c = search needs
 
--- the record in the middle has a number, and its place is in the image
+-- the record in the middle has a number, and its start is in the image
 numbered : (c : tie.After-middle Inv-loop μ-loop) → c .middle .result < c .before .before .before .before .args .count
 numbered c = omega (arith, c .middle .ensures, c .before .before .loop .inv .ends)
 
 stands : (c : tie.After-middle Inv-loop μ-loop)
-    → let a = c .before .before .before .before .args in getD (now (a .places)) (c .middle .result) 0 + 3 ≤ length (now (a .image))
-stands c = place-inside _ _ _ (c .before .before .before .before .pre) _ (numbered c)
+    → let a = c .before .before .before .before .args in getD (now (a .starts)) (c .middle .result) 0 + 3 ≤ length (now (a .image))
+stands c = start-inside _ _ _ (c .before .before .before .before .pre) _ (numbered c)
 
 mul-if1 : tie.Need-mul-if1 Inv-loop μ-loop
 mul-if1 c = omega (arith, numbered c)

@@ -5,7 +5,7 @@ use borrow.Author.Needs.{needs}
 use Rattle.image.specs.Image.{imageOf}
 use Rattle.image.specs.Index.{Indexed}
 use Rattle.image.proofs.Soundness.{few-records, few-bytes}
-use Rattle.entries.proofs.Standing.{place-inside}
+use Rattle.entries.proofs.Standing.{start-inside}
 use Rattle.entries.proofs.Spans.{defective-none, span-none, span-beyond, span-some}
 use Rattle.entries.proofs.part_span.Statement.{statement}
 use Rattle.entries.proofs.part_span.Tie as tie
@@ -26,7 +26,7 @@ returns c =
     let none = defective-none (imageOf s) _ _ _ (c .before .before .index .ensures .verdict) (c .enum-told .given .1) in
     span-none s (a .args .number) (a .args .which) (omega (arith, none))
 
--- the places are noted
+-- the starts are noted
 indexed : (c : tie.After-count) → Indexed (now (c .before .before .before .before .before .args .image)) (c .count .given .0 .0) (c .before .before .index .last .1 .0)
 indexed c = c .before .before .index .ensures .indexed _ (c .count .given .1)
 
@@ -42,7 +42,7 @@ array-read-contents-span c = omega (arith, few-records _ _ (indexed (c .before .
 cast-contents-span : tie.Need-cast-contents-span
 cast-contents-span c =
     let x = indexed (c .before .before) in
-    omega (arith, place-inside _ _ _ x _ (c .if1 .left), few-bytes _ _ (x .sound))
+    omega (arith, start-inside _ _ _ x _ (c .if1 .left), few-bytes _ _ (x .sound))
 
 contents-span-requires : tie.Need-contents-span-requires
 contents-span-requires c κs = search needs
@@ -51,7 +51,7 @@ returns-3 : tie.Need-returns-3
 returns-3 c =
     let x = indexed (c .before .before .before) in
     let h = c .before .if1 .left in
-    span-some _ _ _ (x .sound) h _ (x .place _ h) _ (c .contents-span .ensures)
+    span-some _ _ _ (x .sound) h _ (x .start _ h) _ (c .contents-span .ensures)
 
 pub part-span-spec : {M : Type 1} → statement M
 part-span-spec =

@@ -4,7 +4,7 @@ use Prim.Native.Nat.{_-_, _≤_}
 use native.Mathlib.Omega.{arith}
 use lib.ListN.{length}
 use denote.Ref.{now}
-use Rattle.fields.specs.Place.{passed}
+use Rattle.fields.specs.Positions.{passed}
 use Rattle.fields.proofs.Fields.{stops, steps, none-done, none-left}
 use borrow.Author.Needs.{needs}
 use Rattle.fields.proofs.position_after.Statement.{statement}

@@ -1,6 +1,6 @@
 -- The field no field on is the field at the position.
 use borrow.Author.Needs.{needs}
-use Rattle.fields.specs.Place.{passed}
+use Rattle.fields.specs.Positions.{passed}
 use Rattle.fields.proofs.read.Statement.{statement}
 use Rattle.fields.proofs.read.Tie as tie
 

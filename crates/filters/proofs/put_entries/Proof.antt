@@ -3,7 +3,7 @@ use mathlib.Core.Path.{sym}
 use native.Mathlib.Omega.{arith}
 use lib.ListN.{length-append}
 use lib.Seq.{length-take-le}
-use Rattle.listing.proofs.Writing.{written-front, rest-length, written-both}
+use Rattle.output.proofs.Writing.{written-front, rest-length, written-both}
 use borrow.Author.Needs.{needs}
 use Rattle.filters.proofs.put_entries.Statement.{statement}
 use Rattle.filters.proofs.put_entries.Tie as tie

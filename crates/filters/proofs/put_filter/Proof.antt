@@ -5,8 +5,8 @@ use mathlib.Core.Path.{_≡_, sym}
 use lib.ListN.{replicate, length-replicate}
 use native.Mathlib.Omega.{arith}
 use lib.Seq.{length-take-le}
-use Rattle.address.specs.Number.{Bytes}
-use Rattle.listing.proofs.Writing.{written-front}
+use Rattle.octets.specs.Number.{Bytes}
+use Rattle.output.proofs.Writing.{written-front}
 use Rattle.layouts.proofs.Names.{name-length}
 use Rattle.filters.proofs.Networks.{Network, a-network, no-network, is-wide, entries-inside, before-fits, text-is, text-fits, no-room, long-handle, filter-put, nothing-put}
 use borrow.Author.Needs.{needs}

@@ -4,8 +4,8 @@ use mathlib.Core.Path.{_≡_}
 use native.Mathlib.Omega.{arith}
 use mathlib.Core.List.{List}
 use lib.ListN.{length, take, drop, getD}
-use Rattle.listing.specs.Writing.{Reached}
-use Rattle.listing.proofs.Writing.{rest-length, at-start, kept-length, part-fits, next-part, at-end}
+use Rattle.output.specs.Writing.{Reached}
+use Rattle.output.proofs.Writing.{rest-length, at-start, kept-length, part-fits, next-part, at-end}
 use Rattle.filters.specs.Rows.{rowText, entryRows}
 use Rattle.filters.proofs.Rows.{no-rows, row-next, entry-inside, entry-length}
 use borrow.Author.Needs.{needs}

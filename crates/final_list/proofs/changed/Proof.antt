@@ -10,8 +10,8 @@ returns c =
     let a = c .before .before .before in
     (changed-long (now (a .args .image)) (now (a .args .changes)) (now (a .args .index)) (c .if1 .taken), a .pre .1)
 
-note-places-requires : tie.Need-note-places-requires
-note-places-requires c κs =
+note-starts-requires : tie.Need-note-starts-requires
+note-starts-requires c κs =
     let a = c .before .before .before .before .before in
     (few-records _ _ (a .pre .0 .sound), a .pre .0 .full, a .pre .1)
 
@@ -19,13 +19,13 @@ apply-requires : tie.Need-apply-requires
 apply-requires c κs =
     let p = c .before .before in
     let a = p .before .before .before .before .before .before in
-    (p .note-places .ensures .1, few-records _ _ (a .pre .0 .sound), p .before .before .before .if1 .left, index-held _ _ _ _ _ (a .pre .0) (p .note-places .ensures .0), a .pre .0 .full)
+    (p .note-starts .ensures .1, few-records _ _ (a .pre .0 .sound), p .before .before .before .if1 .left, index-held _ _ _ _ _ (a .pre .0) (p .note-starts .ensures .0), a .pre .0 .full)
 
 returns-2 : tie.Need-returns-2
 returns-2 c =
     let p = c .before .before .before in
     let a = p .before .before .before .before .before .before in
-    (changed-to _ (now (a .args .changes)) _ _ _ (a .pre .0) (p .note-places .ensures .0) (p .before .before .before .if1 .left) (c .apply .last .1 .1 .0) (c .apply .result) (c .apply .ensures .0), c .apply .ensures .1)
+    (changed-to _ (now (a .args .changes)) _ _ _ (a .pre .0) (p .note-starts .ensures .0) (p .before .before .before .if1 .left) (c .apply .last .1 .1 .0) (c .apply .result) (c .apply .ensures .0), c .apply .ensures .1)
 
 pub changed-spec : {M : Type 1} → statement M
-changed-spec = tie.close (tie.spec returns note-places-requires apply-requires returns-2)
+changed-spec = tie.close (tie.spec returns note-starts-requires apply-requires returns-2)

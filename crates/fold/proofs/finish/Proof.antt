@@ -9,8 +9,8 @@ use denote.Ref.{now}
 use lib.Seq.{length-take-le}
 use Rattle.image.proofs.Walk.{start-length}
 use Rattle.merged.specs.Held.{entriesAt}
-use Rattle.listing.specs.Writing.{Written}
-use Rattle.listing.proofs.Writing.{written-both}
+use Rattle.output.specs.Writing.{Written}
+use Rattle.output.proofs.Writing.{written-both}
 use Rattle.fold.proofs.Finals.{finish-bad, finish-full, finish-written, image-size}
 use Rattle.fold.proofs.finish.Statement.{statement}
 use Rattle.fold.proofs.finish.Tie as tie

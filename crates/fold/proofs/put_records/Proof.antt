@@ -7,8 +7,8 @@ use mathlib.Core.Path.{ap}
 use denote.Ref.{now}
 use Rattle.rows.specs.Entry.{rowOf}
 use Rattle.merged.specs.Held.{bytesAt, entriesAt}
-use Rattle.listing.specs.Writing.{Reached}
-use Rattle.listing.proofs.Writing.{Parted, rest-length, at-start, kept-length, part-fits, next-part, at-end}
+use Rattle.output.specs.Writing.{Reached}
+use Rattle.output.proofs.Writing.{Parted, rest-length, at-start, kept-length, part-fits, next-part, at-end}
 use Rattle.fold.proofs.Finals.{next-record, no-record}
 use Rattle.fold.proofs.put_records.Statement.{statement}
 use Rattle.fold.proofs.put_records.Tie as tie

@@ -1,4 +1,4 @@
--- The loop: after each record the rest of the image decides and the stack stands for the earlier blocks (Walked in Walk.antt), and the places
+-- The loop: after each record the rest of the image decides and the stack stands for the earlier blocks (Walked in Walk.antt), and the starts
 -- are noted (Noted.antt).
 use mathlib.Core.Path.{refl}
 use mathlib.Core.List.{[]}
@@ -14,11 +14,11 @@ use Rattle.image.proofs.index_from.Statement.{statement}
 use Rattle.image.proofs.index_from.Tie as tie
 
 abbrev Inv-loop : tie.InvT-loop
-Inv-loop image from places₀ p₀ stack₀ depth₀ count₀ places p stack depth count =
-    Walked image (imageFrom 4096 [] (drop from image)) p stack depth count × Noted image from places count (p .end)
+Inv-loop image from starts₀ p₀ stack₀ depth₀ count₀ starts p stack depth count =
+    Walked image (imageFrom 4096 [] (drop from image)) p stack depth count × Noted image from starts count (p .end)
 
 abbrev μ-loop : tie.MeasureT-loop
-μ-loop image from places₀ p₀ stack₀ depth₀ count₀ places p stack depth count = length image - p .end
+μ-loop image from starts₀ p₀ stack₀ depth₀ count₀ starts p stack depth count = length image - p .end
 
 no-record-requires : tie.Need-no-record-requires Inv-loop μ-loop
 no-record-requires c κs = search needs
@@ -50,30 +50,30 @@ step-requires c κs = coming (reached (c .before))
 enum-known-d : tie.Need-enum-known-d Inv-loop μ-loop
 enum-known-d c = search needs
 
-cast-places : tie.Need-cast-places Inv-loop μ-loop
-cast-places c = omega (arith, c .before .before .before .before .before .before .before .before .before .before .before .if1 .taken, c .before .before .before .before .before .before .before .before .before .before .before .before .before .loop .inv .0 .short-enough)
+cast-starts : tie.Need-cast-starts Inv-loop μ-loop
+cast-starts c = omega (arith, c .before .before .before .before .before .before .before .before .before .before .before .if1 .taken, c .before .before .before .before .before .before .before .before .before .before .before .before .before .loop .inv .0 .short-enough)
 
-cast-places-2 : tie.Need-cast-places-2 Inv-loop μ-loop
-cast-places-2 c = search needs
+cast-starts-2 : tie.Need-cast-starts-2 Inv-loop μ-loop
+cast-starts-2 c = search needs
 
-mul-places : tie.Need-mul-places Inv-loop μ-loop
-mul-places c = search needs
+mul-starts : tie.Need-mul-starts Inv-loop μ-loop
+mul-starts c = search needs
 
-element-write-places : tie.Need-element-write-places Inv-loop μ-loop
-element-write-places c = search needs
+element-write-starts : tie.Need-element-write-starts Inv-loop μ-loop
+element-write-starts c = search needs
 
 -- the record starts in the image, and the place for it is in the stack
-starts : (c : tie.After-known-told Inv-loop μ-loop) → c .before .r .given .0 .0 .start ≤ 262144
-starts c = let i = field-here (reached c) in omega (arith, i .forward, i .within, c .before .before .before .before .before .before .before .loop .inv .0 .short-enough)
+begins : (c : tie.After-known-told Inv-loop μ-loop) → c .before .r .given .0 .0 .start ≤ 262144
+begins c = let i = field-here (reached c) in omega (arith, i .forward, i .within, c .before .before .before .before .before .before .before .loop .inv .0 .short-enough)
 
 fits : (c : tie.After-known-told2 Inv-loop μ-loop) → c .before .d .given .0 .0 < 4096
 fits c = room (reached (c .before .before .before .before .before)) _ (c .before .before .before .step .ensures) _ (c .before .d .given .1)
 
 add-stack : tie.Need-add-stack Inv-loop μ-loop
-add-stack c = omega (arith, starts (c .before .before .before .before .before .before .before))
+add-stack c = omega (arith, begins (c .before .before .before .before .before .before .before))
 
 cast-stack : tie.Need-cast-stack Inv-loop μ-loop
-cast-stack c = omega (arith, starts (c .before .before .before .before .before .before .before))
+cast-stack c = omega (arith, begins (c .before .before .before .before .before .before .before))
 
 mul-stack : tie.Need-mul-stack Inv-loop μ-loop
 mul-stack c = omega (arith, fits (c .before .before))
@@ -128,10 +128,10 @@ index-from-spec =
     slice-aggregate-step
     step-requires
     enum-known-d
-    cast-places
-    cast-places-2
-    mul-places
-    element-write-places
+    cast-starts
+    cast-starts-2
+    mul-starts
+    element-write-starts
     add-stack
     cast-stack
     mul-stack

@@ -2,7 +2,7 @@
 use mathlib.Core.Path.{_≡_, refl, sym, _∙_}
 use borrow.Author.Tests.{eq-eqb, ne-eqb}
 use native.Mathlib.Omega.{arith}
-use Rattle.records.specs.Record.{widthOf}
+use Rattle.registry.specs.Tags.{widthOf}
 use Rattle.image.proofs.Steps.{before, step-up, step-down, step-named, block-room, step-block}
 use Rattle.image.proofs.step.Statement.{statement}
 use Rattle.image.proofs.step.Tie as tie

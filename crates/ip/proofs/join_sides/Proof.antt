@@ -3,7 +3,7 @@ use mathlib.Core.Path.{_≡_, sym}
 use native.Mathlib.Omega.{arith}
 use lib.ListN.{length}
 use borrow.Author.Needs.{needs}
-use Rattle.address.specs.Lists.{found}
+use Rattle.octets.specs.Lists.{found}
 use Rattle.ip.proofs.GroupLaws.{sides-over, sides-joined}
 use Rattle.ip.proofs.join_sides.Statement.{statement}
 use Rattle.ip.proofs.join_sides.Tie as tie

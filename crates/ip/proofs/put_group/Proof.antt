@@ -3,7 +3,7 @@ use mathlib.Core.Path.{_≡_}
 use native.Mathlib.Omega.{arith}
 use lib.ListN.{length}
 use borrow.Author.Needs.{needs}
-use Rattle.pieces.proofs.Fronts.{stored₂}
+use Rattle.octets.proofs.Fronts.{stored₂}
 use Rattle.ip.proofs.put_group.Statement.{statement}
 use Rattle.ip.proofs.put_group.Tie as tie
 

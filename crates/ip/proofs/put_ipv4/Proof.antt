@@ -4,7 +4,7 @@ use mathlib.Core.Path.{_≡_, ap, _∙_}
 use native.Mathlib.Omega.{arith}
 use lib.ListN.{take, length, getD}
 use borrow.Author.Needs.{needs}
-use Rattle.pieces.proofs.Fronts.{stored₄}
+use Rattle.octets.proofs.Fronts.{stored₄}
 use Rattle.ip.proofs.GroupLaws.{four-of}
 use Rattle.ip.proofs.put_ipv4.Statement.{statement}
 use Rattle.ip.proofs.put_ipv4.Tie as tie

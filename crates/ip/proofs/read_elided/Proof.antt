@@ -7,8 +7,8 @@ use lib.Seq.{length-take-le}
 use lib.ListN.{take, drop}
 use denote.Ref.{now}
 use borrow.Author.Needs.{needs}
-use Rattle.pieces.proofs.Pieces.{rest-is}
-use Rattle.address.specs.Lists.{found}
+use Rattle.octets.proofs.Pieces.{rest-is}
+use Rattle.octets.specs.Lists.{found}
 use Rattle.ip.specs.Ip.{side}
 use Rattle.ip.proofs.GroupLaws.{read-some, read-none, elided-left, elided-right}
 use Rattle.ip.proofs.read_elided.Statement.{statement}

@@ -8,10 +8,10 @@ use lib.ListN.{length, take, length-drop}
 use denote.Ref.{now}
 use borrow.Author.Needs.{needs}
 use Rattle.ip.proofs.Addresses.{prefixed-by-nil}
-use Rattle.pieces.proofs.Pieces.{rest-is}
+use Rattle.octets.proofs.Pieces.{rest-is}
 use Rattle.ip.specs.Ip.{prefixed, groups}
-use Rattle.pieces.specs.Split.{split, FirstPiece}
-use Rattle.ip.proofs.GroupLaws.{refused, groups-bad, groups-end, groups-over, groups-next}
+use Rattle.octets.specs.Split.{split, FirstPiece}
+use Rattle.ip.proofs.GroupLaws.{no-group, groups-bad, groups-end, groups-over, groups-next}
 use Rattle.numeral.proofs.Laws.{h16-le}
 use Rattle.ip.proofs.read_groups.Statement.{statement}
 use Rattle.ip.proofs.read_groups.Tie as tie
@@ -52,7 +52,7 @@ returns c =
     let l = inside .before .loop in
     let s = now (a .s) in
     let t = now (l .t) in
-    refused (c .no-groups .ensures)
+    no-group (c .no-groups .ensures)
     (groups-bad (a .tail) s t (l .bytes) (l .n) (l .j) (l .inv .4) (l .inv .3) (omega arith) (sym (c .before .before .before .read-h16 .ensures) ∙ c .before .enum-told .given .1))
 
 no-groups-requires-2 : tie.Need-no-groups-requires-2 Inv-loop μ-loop
@@ -68,7 +68,7 @@ returns-2 c =
     let t = now (l .t) in
     let v = c .before .before .before .g .given .0 .0 in
     let e = sym (read .read-h16 .ensures) ∙ c .before .before .before .g .given .1 in
-    refused (c .no-groups2 .ensures)
+    no-group (c .no-groups2 .ensures)
     (groups-over (a .tail) s t (l .bytes) (l .n) (l .j) (l .inv .4) (l .inv .3) (omega arith) v e (l .inv .1) (omega arith) (omega arith))
 
 put-group-requires : tie.Need-put-group-requires Inv-loop μ-loop

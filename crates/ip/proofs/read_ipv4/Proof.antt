@@ -8,11 +8,11 @@ use lib.Seq.{length-take-le}
 use denote.Ref.{now}
 use borrow.Author.Needs.{needs}
 use Rattle.ip.proofs.Addresses.{prefixed-by-nil, ipv4-over, ipv4-bad, ipv4-done, ipv4-next}
-use Rattle.address.specs.Lists.{found}
+use Rattle.octets.specs.Lists.{found}
 use Rattle.ip.specs.Ip.{prefixed, octets}
-use Rattle.pieces.proofs.Pieces.{rest-is}
+use Rattle.octets.proofs.Pieces.{rest-is}
 use Rattle.numeral.proofs.Laws.{decimal-le}
-use Rattle.pieces.specs.Split.{split}
+use Rattle.octets.specs.Split.{split}
 use Rattle.ip.proofs.read_ipv4.Statement.{statement}
 use Rattle.ip.proofs.read_ipv4.Tie as tie
 

@@ -7,7 +7,7 @@ use denote.Ref.{now}
 use borrow.Author.Needs.{needs}
 use Rattle.ip.proofs.Addresses.{found-exactly}
 use Rattle.ip.proofs.Elisions.{elision-room}
-use Rattle.address.specs.Lists.{found}
+use Rattle.octets.specs.Lists.{found}
 use Rattle.ip.specs.Ip.{ipv6}
 use Rattle.ip.proofs.GroupLaws.{read-some, read-none, exactly-none}
 use Rattle.ip.proofs.read_ipv6.Statement.{statement}

@@ -7,7 +7,7 @@ use denote.Ref.{now}
 use borrow.Author.Needs.{needs}
 use Rattle.ip.specs.Ip.{lastGroup}
 use Rattle.numeral.proofs.Laws.{h16-le}
-use Rattle.ip.proofs.GroupLaws.{refused, answered, over, put, missing, last-group, last-ipv4, last-none}
+use Rattle.ip.proofs.GroupLaws.{no-group, answered, over, put, missing, last-group, last-ipv4, last-none}
 use Rattle.ip.proofs.read_last.Statement.{statement}
 use Rattle.ip.proofs.read_last.Tie as tie
 
@@ -27,7 +27,7 @@ returns c =
     let l : length (a .bytes) ≡ 16 = search needs in
     let v = c .before .before .before .g .given .0 .0 in
     let e = sym (read .read-h16 .ensures) ∙ c .before .before .before .g .given .1 in
-    refused (c .no-groups .ensures) (over (a .n) (a .bytes) l (lastGroup (a .tail) (now (a .t))) _ (last-group (now (a .t)) (a .tail) v e) (omega arith) (omega arith))
+    no-group (c .no-groups .ensures) (over (a .n) (a .bytes) l (lastGroup (a .tail) (now (a .t))) _ (last-group (now (a .t)) (a .tail) v e) (omega arith) (omega arith))
 
 put-group-requires : tie.Need-put-group-requires
 put-group-requires c κs = (omega arith, h16-le _ _ (sym (c .before .before .before .before .read-h16 .ensures) ∙ c .before .before .g .given .1))
@@ -68,7 +68,7 @@ returns-4 c =
     let a = read .before .before .args in
     let l : length (a .bytes) ≡ 16 = search needs in
     let e = sym (read .read-h16 .ensures) ∙ c .before .before .enum-told .given .1 in
-    refused (c .no-groups2 .ensures) (missing (a .n) (a .bytes) l (lastGroup (a .tail) (now (a .t))) (last-none (now (a .t)) (a .tail) e (c .before .if2 .left)))
+    no-group (c .no-groups2 .ensures) (missing (a .n) (a .bytes) l (lastGroup (a .tail) (now (a .t))) (last-none (now (a .t)) (a .tail) e (c .before .if2 .left)))
 
 pub read-last-spec : {M : Type 1} → statement M
 read-last-spec =

@@ -5,9 +5,9 @@ use native.Mathlib.Omega.{arith}
 use lib.ListN.{length}
 use denote.Ref.{now}
 use borrow.Author.Needs.{needs}
-use Rattle.address.specs.Lists.{found}
+use Rattle.octets.specs.Lists.{found}
 use Rattle.ip.specs.Ip.{ipv4}
-use Rattle.ip.proofs.GroupLaws.{refused, answered, over, put, missing}
+use Rattle.ip.proofs.GroupLaws.{no-group, answered, over, put, missing}
 use Rattle.ip.proofs.read_tail.Statement.{statement}
 use Rattle.ip.proofs.read_tail.Tie as tie
 
@@ -23,7 +23,7 @@ returns c =
     let a = c .before .before .before .before .before .args in
     let l : length (a .bytes) ≡ 16 = search needs in
     let f : length (c .before .before .before .read-ipv4 .result .bytes) ≡ 4 = search needs in
-    refused (c .no-groups .ensures) (over (a .n) (a .bytes) l (ipv4 (now (a .t))) (c .before .before .before .read-ipv4 .result .bytes) (sym (c .before .before .before .read-ipv4 .ensures) ∙ rw (c .before .before .if1 .taken)) (omega arith) (omega arith))
+    no-group (c .no-groups .ensures) (over (a .n) (a .bytes) l (ipv4 (now (a .t))) (c .before .before .before .read-ipv4 .result .bytes) (sym (c .before .before .before .read-ipv4 .ensures) ∙ rw (c .before .before .if1 .taken)) (omega arith) (omega arith))
 
 put-ipv4-requires : tie.Need-put-ipv4-requires
 put-ipv4-requires c κs = search needs
@@ -48,7 +48,7 @@ unfolding found
 returns-3 c =
     let a = c .before .before .before .before .args in
     let l : length (a .bytes) ≡ 16 = search needs in
-    refused (c .no-groups2 .ensures) (missing (a .n) (a .bytes) l (ipv4 (now (a .t))) (sym (c .before .before .read-ipv4 .ensures) ∙ rw (c .before .if1 .left)))
+    no-group (c .no-groups2 .ensures) (missing (a .n) (a .bytes) l (ipv4 (now (a .t))) (sym (c .before .before .read-ipv4 .ensures) ∙ rw (c .before .if1 .left)))
 
 pub read-tail-spec : {M : Type 1} → statement M
 read-tail-spec =

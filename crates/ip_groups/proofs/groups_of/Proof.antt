@@ -7,7 +7,7 @@ use lib.ListN.{length, getD, take, drop, length-set}
 use denote.Ref.{now}
 use borrow.Author.Needs.{needs}
 use Rattle.ip_groups.specs.Groups.{groupsOf}
-use Rattle.pieces.proofs.Fronts.{pushed}
+use Rattle.octets.proofs.Fronts.{pushed}
 use Rattle.ip_groups.proofs.Arrays.{groups-next, groups-all}
 use Rattle.ip_groups.proofs.groups_of.Statement.{statement}
 use Rattle.ip_groups.proofs.groups_of.Tie as tie

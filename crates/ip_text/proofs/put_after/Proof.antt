@@ -1,10 +1,10 @@
 -- The given bytes, and the numbers in the rest of the buffer after them.
-use Rattle.listing.proofs.Writing.{written-both}
+use Rattle.output.proofs.Writing.{written-both}
 use borrow.Author.Needs.{needs}
 use Rattle.ip_text.proofs.put_after.Statement.{statement}
 use Rattle.ip_text.proofs.put_after.Tie as tie
 use Rattle.digits.proofs.put_spelled.Reads as put-spelled-reads
-use Rattle.listing.proofs.put_bytes.Reads as put-bytes-reads
+use Rattle.output.proofs.put_bytes.Reads as put-bytes-reads
 
 put-bytes-requires : tie.Need-put-bytes-requires
 put-bytes-requires c κs = search needs

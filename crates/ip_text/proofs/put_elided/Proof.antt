@@ -4,9 +4,9 @@ use mathlib.Core.Path.{_≡_, _∙_}
 use mathlib.Core.List.{List, _++_}
 use native.Mathlib.Omega.{arith}
 use lib.ListN.{length, length-append}
-use Rattle.pieces.specs.Ascii.{ascii}
+use Rattle.octets.specs.Ascii.{ascii}
 use Rattle.ip_text.specs.Text.{colons}
-use Rattle.listing.proofs.Writing.{written-both, rest-length}
+use Rattle.output.proofs.Writing.{written-both, rest-length}
 use borrow.Author.Needs.{needs}
 use Rattle.ip_text.proofs.put_elided.Statement.{statement}
 use Rattle.ip_text.proofs.put_elided.Tie as tie

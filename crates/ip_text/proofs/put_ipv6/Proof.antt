@@ -3,7 +3,7 @@ use mathlib.Core.Path.{ap}
 use mathlib.Core.Logic.{⊎-elim}
 use native.Mathlib.Omega.{arith}
 use lib.ListN.{length}
-use Rattle.pieces.specs.Ascii.{ascii}
+use Rattle.octets.specs.Ascii.{ascii}
 use Rattle.ip_text.proofs.Forms.{mapped-form, other-zeros, other-group}
 use borrow.Author.Needs.{needs}
 use Rattle.ip_text.proofs.put_ipv6.Statement.{statement}
@@ -69,7 +69,7 @@ put-shortened-requires c κs =
     let is = c .before .before .before .before .before .before .groups-of .ensures in
     let runs = c .before .before .before .before .zero-runs .ensures in
     let p = c .before .before .before .before .before .before .before .before .before .pre in
-    (runs .most, runs .place, omega (arith, p .1, ap length (⊎-elim (λ w. other-group a is runs (w .1 .left)) (λ w. other-zeros a is runs (w .left)) (c .before .before .if1 .came))))
+    (runs .most, runs .found-at, omega (arith, p .1, ap length (⊎-elim (λ w. other-group a is runs (w .1 .left)) (λ w. other-zeros a is runs (w .left)) (c .before .before .if1 .came))))
 
 same-length-2 : tie.Need-same-length-2
 same-length-2 c = search needs

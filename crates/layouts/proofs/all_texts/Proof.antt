@@ -1,6 +1,6 @@
 -- The table.
 use mathlib.Core.Path.{refl}
-use Rattle.pieces.specs.Ascii.{ascii}
+use Rattle.octets.specs.Ascii.{ascii}
 use Rattle.layouts.specs.Styles.{texts}
 use Rattle.layouts.proofs.all_texts.Statement.{statement}
 use Rattle.layouts.proofs.all_texts.Tie as tie

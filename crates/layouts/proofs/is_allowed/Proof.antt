@@ -1,6 +1,6 @@
 -- By the format.
 use Rattle.layouts.specs.Layout.{isAllowed}
-use Rattle.pieces.specs.Ascii.{ascii}
+use Rattle.octets.specs.Ascii.{ascii}
 use borrow.Author.Needs.{needs}
 use Rattle.layouts.proofs.is_allowed.Statement.{statement}
 use Rattle.layouts.proofs.is_allowed.Tie as tie

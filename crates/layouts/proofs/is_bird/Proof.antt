@@ -1,6 +1,6 @@
 -- No digit at place 0.
 use Rattle.layouts.specs.Layout.{isAllowed}
-use Rattle.pieces.specs.Ascii.{ascii}
+use Rattle.octets.specs.Ascii.{ascii}
 use mathlib.Core.Logic.{⊎-elim}
 use borrow.Author.Tests.{eq-eqb, ne-eqb}
 use borrow.Author.Needs.{needs}

@@ -1,7 +1,7 @@
 -- Style 0 has no head.
 use native.Mathlib.Omega.{arith}
 use borrow.Author.Tests.{eq-eqb, ne-eqb}
-use Rattle.listing.proofs.Writing.{written-nothing}
+use Rattle.output.proofs.Writing.{written-nothing}
 use borrow.Author.Needs.{needs}
 use Rattle.layouts.proofs.put_head.Statement.{statement}
 use Rattle.layouts.proofs.put_head.Tie as tie

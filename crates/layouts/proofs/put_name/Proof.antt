@@ -3,8 +3,8 @@ use Prim.Native.Nat.{_-_, _≤_}
 use mathlib.Core.Path.{_≡_, refl, _∙_}
 use native.Mathlib.Omega.{arith}
 use lib.ListN.{length, take, length-set}
-use Rattle.listing.specs.Writing.{Written}
-use Rattle.listing.proofs.Writing.{written-nothing}
+use Rattle.output.specs.Writing.{Written}
+use Rattle.output.proofs.Writing.{written-nothing}
 use Rattle.layouts.specs.Layout.{nameIn}
 use Rattle.layouts.proofs.Names.{name-next, name-written}
 use borrow.Author.Needs.{needs}

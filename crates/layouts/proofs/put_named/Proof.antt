@@ -1,7 +1,7 @@
 -- One after another.
 use native.Mathlib.Omega.{arith}
 use lib.ListN.{length-append}
-use Rattle.listing.proofs.Writing.{rest-length, written-both}
+use Rattle.output.proofs.Writing.{rest-length, written-both}
 use borrow.Author.Needs.{needs}
 use Rattle.layouts.proofs.put_named.Statement.{statement}
 use Rattle.layouts.proofs.put_named.Tie as tie

@@ -5,8 +5,8 @@ use mathlib.Core.List.{List, [], _∷_}
 use native.Mathlib.Omega.{arith}
 use lib.ListN.{length, take, length-set}
 use lib.Seq.{length-take-le}
-use Rattle.address.proofs.Below.{digits-take}
-use Rattle.listing.proofs.Writing.{rest-length, written-both, written-one}
+use Rattle.octets.proofs.Below.{digits-take}
+use Rattle.output.proofs.Writing.{rest-length, written-both, written-one}
 use Rattle.answers.specs.Reply.{line}
 use Rattle.answers.specs.Answered.{replyOf}
 use Rattle.line_text.specs.Line.{spaced, following}

@@ -9,14 +9,14 @@ use Rattle.links.proofs.gather.Statement.{statement}
 use Rattle.links.proofs.gather.Tie as tie
 
 abbrev Inv-loop : tie.InvT-loop
-Inv-loop places blocks starts₀ n₀ i₀ starts n i =
+Inv-loop starts blocks firsts₀ n₀ i₀ firsts n i =
     (blocks .from + n ≡ i)
     × (i ≤ blocks .until)
-    × (length starts ≡ 4096)
-    × ((k : ℕ) → k < n → getD starts k 0 ≡ getD places (blocks .from + k) 0 + 6)
+    × (length firsts ≡ 4096)
+    × ((k : ℕ) → k < n → getD firsts k 0 ≡ getD starts (blocks .from + k) 0 + 6)
 
 abbrev μ-loop : tie.MeasureT-loop
-μ-loop places blocks starts₀ n₀ i₀ starts n i = blocks .until - i
+μ-loop starts blocks firsts₀ n₀ i₀ firsts n i = blocks .until - i
 
 loop-holds : tie.Need-loop-holds Inv-loop μ-loop
 loop-holds c =
@@ -29,17 +29,17 @@ range-start-requires c κs =
     let low = c .before .before .before .pre .0 .low (c .before .before .loop .i) (omega arith) (c .if1 .taken) in
     (omega arith, low)
 
-cast-starts : tie.Need-cast-starts Inv-loop μ-loop
-cast-starts c =
+cast-firsts : tie.Need-cast-firsts Inv-loop μ-loop
+cast-firsts c =
     let few = c .before .before .before .before .pre .0 .few in
     let low = c .before .before .before .before .pre .0 .low (c .before .before .before .loop .i) (omega arith) (c .before .if1 .taken) in
     search needs
 
-mul-starts : tie.Need-mul-starts Inv-loop μ-loop
-mul-starts c = let few = c .before .before .before .before .pre .0 .few in search needs
+mul-firsts : tie.Need-mul-firsts Inv-loop μ-loop
+mul-firsts c = let few = c .before .before .before .before .pre .0 .few in search needs
 
-element-write-starts : tie.Need-element-write-starts Inv-loop μ-loop
-element-write-starts c = let few = c .before .before .before .before .pre .0 .few in search needs
+element-write-firsts : tie.Need-element-write-firsts Inv-loop μ-loop
+element-write-firsts c = let few = c .before .before .before .before .pre .0 .few in search needs
 
 add-n : tie.Need-add-n Inv-loop μ-loop
 add-n c = let few = c .before .before .before .before .pre .0 .few in search needs
@@ -57,8 +57,8 @@ loop-again c =
     let full = l .inv .2 in (
       omega arith,
       omega arith,
-      length-set (l .starts) (l .n) _ ∙ full,
-      start-more (c .before .before .before .before .args .places .now) (l .starts) (c .before .before .before .before .args .blocks .from) (l .n) (c .range-start .result) (omega arith) (rw (l .inv .0) (c .range-start .ensures)) (l .inv .3),
+      length-set (l .firsts) (l .n) _ ∙ full,
+      start-more (c .before .before .before .before .args .starts .now) (l .firsts) (c .before .before .before .before .args .blocks .from) (l .n) (c .range-start .result) (omega arith) (rw (l .inv .0) (c .range-start .ensures)) (l .inv .3),
     )
 
 returns : tie.Need-returns Inv-loop μ-loop
@@ -72,9 +72,9 @@ gather-spec =
     μ-loop
     loop-holds
     range-start-requires
-    cast-starts
-    mul-starts
-    element-write-starts
+    cast-firsts
+    mul-firsts
+    element-write-firsts
     add-n
     add-i
     loop-less

@@ -5,7 +5,7 @@ use native.Mathlib.Omega.{arith}
 use borrow.Author.Tests.{not-true, not-false}
 use lib.ListN.{length, getD}
 use denote.Ref.{now}
-use Rattle.records.specs.Record.{widthOf}
+use Rattle.registry.specs.Tags.{widthOf}
 use Rattle.image.proofs.Addresses.{wide-family}
 use Rattle.scans.specs.Standing.{blocksIn}
 use Rattle.links.specs.Links.{Link}
@@ -15,11 +15,11 @@ use Rattle.links.proofs.hop.Statement.{statement}
 use Rattle.links.proofs.hop.Tie as tie
 
 abbrev Inv-loop : tie.InvT-loop
-Inv-loop image family starts links n i width end j₀ j =
-    (width ≡ widthOf family) × (end ≡ getD starts i 0 + width) × Hopping (blocksIn image family) i j
+Inv-loop image family firsts links n i width end j₀ j =
+    (width ≡ widthOf family) × (end ≡ getD firsts i 0 + width) × Hopping (blocksIn image family) i j
 
 abbrev μ-loop : tie.MeasureT-loop
-μ-loop image family starts links n i width end j₀ j = n - j
+μ-loop image family firsts links n i width end j₀ j = n - j
 
 width-of-requires : tie.Need-width-of-requires Inv-loop μ-loop
 width-of-requires c κs = search needs
@@ -31,11 +31,11 @@ element-copy-out-end : tie.Need-element-copy-out-end Inv-loop μ-loop
 element-copy-out-end c = let few = c .before .before .pre .0 .few in search needs
 
 -- where block i and the block of this turn stand, and where that block's link leads
-first-fits : (c : tie.Start Inv-loop μ-loop) → let a = c .args in getD (now (a .starts)) (a .i) 0 + 2 * widthOf (a .family) ≤ length (now (a .image))
+first-fits : (c : tie.Start Inv-loop μ-loop) → let a = c .args in getD (now (a .firsts)) (a .i) 0 + 2 * widthOf (a .family) ≤ length (now (a .image))
 first-fits c = c .pre .0 .fits (c .args .i) (c .pre .1)
 
 fits : (c : tie.In-loop Inv-loop μ-loop) → let a = c .before .before .before .before .before .args in
-    getD (now (a .starts)) (c .before .loop .j) 0 + 2 * widthOf (a .family) ≤ length (now (a .image))
+    getD (now (a .firsts)) (c .before .loop .j) 0 + 2 * widthOf (a .family) ≤ length (now (a .image))
 fits c = c .before .before .before .before .before .pre .0 .fits (c .before .loop .j) (c .loop-test .taken)
 
 link : (c : tie.In-loop Inv-loop μ-loop) → let a = c .before .before .before .before .before .args in

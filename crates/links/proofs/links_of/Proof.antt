@@ -11,11 +11,11 @@ use Rattle.links.proofs.links_of.Statement.{statement}
 use Rattle.links.proofs.links_of.Tie as tie
 
 abbrev Inv-loop : tie.InvT-loop
-Inv-loop image family starts n links₀ i₀ links i =
+Inv-loop image family firsts n links₀ i₀ links i =
     (length links ≡ 4096) × (i ≤ n) × Linked (blocksIn image family) links i
 
 abbrev μ-loop : tie.MeasureT-loop
-μ-loop image family starts n links₀ i₀ links i = i
+μ-loop image family firsts n links₀ i₀ links i = i
 
 loop-holds : tie.Need-loop-holds Inv-loop μ-loop
 loop-holds c =

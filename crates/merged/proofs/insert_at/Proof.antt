@@ -1,4 +1,4 @@
--- The places from i on have moved up by one.
+-- The starts from i on have moved up by one.
 use borrow.Author.Needs.{needs}
 use mathlib.Core.Path.{_≡_, _∙_}
 use Prim.Native.Nat.{_-_, _≤_, _<_}
@@ -10,10 +10,10 @@ use Rattle.merged.proofs.insert_at.Statement.{statement}
 use Rattle.merged.proofs.insert_at.Tie as tie
 
 abbrev Inv-loop : tie.InvT-loop
-Inv-loop index₀ n at place i₀ index i = (at ≤ i) × (i ≤ n) × Shifted index₀ n i index
+Inv-loop index₀ n at start i₀ index i = (at ≤ i) × (i ≤ n) × Shifted index₀ n i index
 
 abbrev μ-loop : tie.MeasureT-loop
-μ-loop index₀ n at place i₀ index i = i
+μ-loop index₀ n at start i₀ index i = i
 
 room : (a : tie.Start Inv-loop μ-loop) → a .args .n < length (now (a .args .index))
 room a = omega (arith, a .pre .0, a .pre .1)
@@ -61,7 +61,7 @@ returns c =
     let a = c .before .before in
     let l = c .before .loop in
     let e : l .i ≡ a .args .at = omega (arith, l .inv .0, c .loop-test .left) in
-    (rw (← e) (shift-done _ _ (room a) (l .i) _ (l .inv .2) (l .inv .1) (a .args .place)), length-set (l .index) (l .i) (a .args .place) ∙ shift-length _ _ (room a) (l .i) _ (l .inv .2) (l .inv .1) ∙ a .pre .0)
+    (rw (← e) (shift-done _ _ (room a) (l .i) _ (l .inv .2) (l .inv .1) (a .args .start)), length-set (l .index) (l .i) (a .args .start) ∙ shift-length _ _ (room a) (l .i) _ (l .inv .2) (l .inv .1) ∙ a .pre .0)
 
 pub insert-at-spec : {M : Type 1} → statement M
 insert-at-spec =

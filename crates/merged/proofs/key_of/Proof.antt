@@ -6,7 +6,7 @@ use native.Mathlib.Omega.{arith}
 use lib.ListN.{length}
 use denote.Ref.{now}
 use Rattle.fields.specs.Slices.{part-slice}
-use Rattle.records.specs.Place.{Inside}
+use Rattle.records.specs.Positions.{Inside}
 use Rattle.merged.proofs.Known.{known, key-room, block-read, handle-read, name-read}
 use Rattle.merged.proofs.key_of.Statement.{statement}
 use Rattle.merged.proofs.key_of.Tie as tie

@@ -1,4 +1,4 @@
--- The places behind the one taken out have moved down by one, up to i.
+-- The starts behind the one taken out have moved down by one, up to i.
 use borrow.Author.Needs.{needs}
 use mathlib.Core.Path.{_≡_, _∙_}
 use Prim.Native.Nat.{suc, _+_, _-_, _≤_, _<_}

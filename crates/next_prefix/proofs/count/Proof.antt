@@ -5,10 +5,10 @@ use mathlib.Core.List.{_∷_}
 use native.Mathlib.Omega.{arith}
 use borrow.Author.Tests.{leb-true, leb-false}
 use lib.ListN.{length}
-use Rattle.address.specs.Words.{numberOf}
+use Rattle.octets.specs.Words.{numberOf}
 use Rattle.cidr.specs.Prefixes.{prefix}
 use Rattle.cidr.proofs.Theorem.{at-most-254}
-use Rattle.next_prefix.specs.Walked.{between, walked}
+use Rattle.next_prefix.specs.Walked.{wordsRange, walked}
 use Rattle.next_prefix.proofs.Walk as walk
 use borrow.Author.Needs.{needs}
 use Rattle.next_prefix.proofs.count.Statement.{statement}
@@ -64,7 +64,7 @@ module _ (c : tie.After-after Inv-loop μ-loop) where
 
 add-n : tie.Need-add-n Inv-loop μ-loop
 add-n c =
-    omega (arith, turn c .before .loop .inv .1, ap length (more c), at-most-254 (between (start c .args .first) (start c .args .last)) (below (start c)))
+    omega (arith, turn c .before .loop .inv .1, ap length (more c), at-most-254 (wordsRange (start c .args .first) (start c .args .last)) (below (start c)))
 
 loop-less : tie.Need-loop-less Inv-loop μ-loop
 loop-less c = walk.falls 128 (below (start c)) (turn c .prefix-at .ensures .0) (c .after .ensures) (inside c)

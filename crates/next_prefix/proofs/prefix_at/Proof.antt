@@ -3,10 +3,10 @@ use Prim.Native.Nat.{_^_, _<_}
 use mathlib.Core.Path.{sym, _∙_}
 use native.Mathlib.Nat.{le-of-lt}
 use borrow.Author.Tests.{leb-true, leb-false}
-use Rattle.address.specs.Words.{numberOf}
+use Rattle.octets.specs.Words.{numberOf}
 use Rattle.cidr.specs.First.{Largest}
 use Rattle.cidr.proofs.Step as step
-use Rattle.next_prefix.specs.Walked.{between}
+use Rattle.next_prefix.specs.Walked.{wordsRange}
 use Rattle.next_prefix.proofs.Walk as walk
 use borrow.Author.Needs.{needs}
 use Rattle.next_prefix.proofs.prefix_at.Statement.{statement}
@@ -40,7 +40,7 @@ cap-requires : tie.Need-cap-requires
 cap-requires c κs = search needs
 
 -- where the zeros allow more than remains
-largest : (c : tie.After-cap) → Largest (between (c .before .before .before .before .before .before .args .start) (c .before .before .before .before .before .before .args .last)) (c .cap .result)
+largest : (c : tie.After-cap) → Largest (wordsRange (c .before .before .before .before .before .before .args .start) (c .before .before .before .before .before .before .args .last)) (c .cap .result)
 largest c =
     let start = c .before .before .before .before .before in
     let beyond = leb-false _ _ (sym (c .before .before .before .words-at-most .ensures) ∙ c .before .before .if1 .left) in

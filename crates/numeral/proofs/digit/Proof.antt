@@ -2,7 +2,7 @@
 use Prim.Native.Char.{code}
 use native.Mathlib.Omega.{arith}
 use borrow.Author.Needs.{needs}
-use Rattle.pieces.proofs.Tests.{within-low}
+use Rattle.octets.proofs.Connectives.{within-low}
 use Rattle.numeral.specs.Numeral.{digitValue}
 use Rattle.numeral.proofs.digit.Statement.{statement}
 use Rattle.numeral.proofs.digit.Tie as tie

@@ -8,8 +8,9 @@ use native.Mathlib.Omega.{arith}
 use lib.ListN.{length, getD}
 use denote.Ref.{now}
 use lib.Dec.{leb}
-use Rattle.address.specs.Positions.{Wide, numberIn}
-use Rattle.records.specs.Record.{widthOf, rangeOf, firstOf, lastOf}
+use Rattle.registry.specs.Tags.{widthOf}
+use Rattle.octets.specs.Positions.{Wide, numberIn}
+use Rattle.records.specs.Record.{rangeOf, firstOf, lastOf}
 use Rattle.image.proofs.Addresses.{wide-family}
 use Rattle.image.specs.Nest.{nestOf}
 use Rattle.image.proofs.Opens.{nest-none, nest-on, nest-under, nest-out}

@@ -6,8 +6,8 @@ use lib.ListN.{length, drop}
 use denote.Ref.{now}
 use borrow.Author.Tests.{not-true, not-false}
 use borrow.Author.Needs.{needs}
-use Rattle.address.specs.Lists.{every}
-use Rattle.pieces.proofs.Scans.{every-on, every-bad, every-end}
+use Rattle.octets.specs.Lists.{every}
+use Rattle.octets.proofs.Scans.{every-on, every-bad, every-end}
 use Rattle.pattern.specs.Pattern.{patternByte}
 use Rattle.pattern.proofs.are_pattern_bytes.Statement.{statement}
 use Rattle.pattern.proofs.are_pattern_bytes.Tie as tie

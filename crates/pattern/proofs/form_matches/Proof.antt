@@ -6,7 +6,7 @@ use lib.Seq.{length-take-le}
 use denote.Ref.{now}
 use borrow.Author.Tests.{lt-ltb, le-ltb}
 use borrow.Author.Needs.{needs}
-use Rattle.pieces.proofs.Pieces.{rest-is}
+use Rattle.octets.proofs.Pieces.{rest-is}
 use Rattle.pattern.specs.Pattern.{matchesForm}
 use Rattle.pattern.proofs.form_matches.Statement.{statement}
 use Rattle.pattern.proofs.form_matches.Tie as tie

@@ -1,6 +1,6 @@
 -- `is_label_byte`: the rule, term by term.
 use mathlib.Core.Path.{refl}
-use Rattle.name.specs.Host.{isLabelByte}
+use Rattle.texts.specs.Host.{isLabelByte}
 use Rattle.pattern.proofs.is_label_byte.Statement.{statement}
 use Rattle.pattern.proofs.is_label_byte.Tie as tie
 

@@ -4,7 +4,7 @@ use Prim.Native.Nat.{_+_}
 use native.Mathlib.Omega.{arith}
 use denote.Ref.{now}
 use borrow.Author.Needs.{needs}
-use Rattle.pieces.proofs.Pieces.{rest-is}
+use Rattle.octets.proofs.Pieces.{rest-is}
 use Rattle.pattern.proofs.Forms.{form-exact, form-many, form-one, form-other}
 use Rattle.pattern.proofs.pattern_form.Statement.{statement}
 use Rattle.pattern.proofs.pattern_form.Tie as tie

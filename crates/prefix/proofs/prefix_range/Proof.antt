@@ -5,8 +5,8 @@ use Prim.Native.Nat.{ℕ, _+_, _-_, _*_, _^_, _%_, _≤_, _<_}
 use native.Mathlib.Omega.{arith}
 use lib.ListN.{length, getD, length-set}
 use lib.Seq.{getD-set-other}
-use Rattle.address.specs.Number.{value, Bytes}
-use Rattle.address.proofs.Bytes.{array-bytes}
+use Rattle.octets.specs.Number.{value, Bytes}
+use Rattle.octets.proofs.Bytes.{array-bytes}
 use Rattle.prefix.proofs.LowBits as low
 use borrow.Author.Needs.{needs}
 use Rattle.prefix.proofs.prefix_range.Statement.{statement}

@@ -3,7 +3,7 @@ use mathlib.Core.Path.{sym}
 use native.Mathlib.Omega.{arith}
 use lib.ListN.{length-set}
 use denote.Ref.{now}
-use Rattle.listing.proofs.Writing.{four-set}
+use Rattle.output.proofs.Writing.{four-set}
 use Rattle.prefix_bytes.proofs.Bytes.{length-bytes, four-bytes}
 use borrow.Author.Needs.{needs}
 use Rattle.prefix_bytes.proofs.put4.Statement.{statement}

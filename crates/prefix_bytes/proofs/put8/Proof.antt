@@ -1,5 +1,5 @@
 -- The high half, then the low one into the rest of the buffer.
-use Rattle.listing.proofs.Writing.{written-both}
+use Rattle.output.proofs.Writing.{written-both}
 use Rattle.prefix_bytes.proofs.Bytes.{two-halves}
 use borrow.Author.Needs.{needs}
 use Rattle.prefix_bytes.proofs.put8.Statement.{statement}

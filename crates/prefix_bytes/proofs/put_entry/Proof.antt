@@ -1,6 +1,6 @@
 -- The address, and one byte more.
 use native.Mathlib.Omega.{arith}
-use Rattle.listing.proofs.Writing.{written-one}
+use Rattle.output.proofs.Writing.{written-one}
 use Rattle.prefix_bytes.specs.Entry.{entryOf}
 use Rattle.prefix_bytes.proofs.Widths.{at-most-sixteen}
 use borrow.Author.Needs.{needs}

@@ -5,8 +5,8 @@ use native.Mathlib.Numerals.{add-one}
 use native.Mathlib.Omega.{arith}
 use lib.ListN.{length, take}
 use denote.Ref.{now}
-use Rattle.listing.specs.Writing.{Written}
-use Rattle.listing.proofs.Writing.{written-nothing, written-length, written-both, rest-length}
+use Rattle.output.specs.Writing.{Written}
+use Rattle.output.proofs.Writing.{written-nothing, written-length, written-both, rest-length}
 use Rattle.prefix_bytes.specs.Words.{wordsOf, wordBytes}
 use Rattle.prefix_bytes.proofs.Bytes.{word-more}
 use borrow.Author.Needs.{needs}

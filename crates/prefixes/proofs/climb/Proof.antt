@@ -7,14 +7,14 @@ use native.Mathlib.Omega.{arith}
 use borrow.Author.Tests.{leb-true, leb-false}
 use lib.ListN.{length}
 use denote.Ref.{now}
-use Rattle.address.specs.Words.{numberOf}
-use Rattle.listing.proofs.Writing.{rest-length, kept-length}
+use Rattle.octets.specs.Words.{numberOf}
+use Rattle.output.proofs.Writing.{rest-length, kept-length}
 use Rattle.cidr.specs.Prefixes.{prefix, from-to, prefixesOf}
 use Rattle.cidr.specs.First.{Largest}
 use Rattle.cidr.proofs.Greedy.{first-prefix}
 use Rattle.cidr.proofs.Step as step
 use Rattle.cidr.proofs.Theorem.{at-most-254}
-use Rattle.next_prefix.specs.Walked.{between, walked}
+use Rattle.next_prefix.specs.Walked.{wordsRange, walked}
 use Rattle.prefixes.specs.Entries.{Entered}
 use Rattle.next_prefix.proofs.Walk as walk
 use Rattle.prefixes.proofs.Writing.{nothing-entered, entry-inside, few-entered, entered, entry-fits}
@@ -71,13 +71,13 @@ module _ (c : tie.Else1 Inv-loop μ-loop) where
   not-yet : numberOf (c .before .before .last-of .result) < numberOf (start .args .last)
   not-yet = leb-false _ _ (sym (c .before .words-at-most .ensures) ∙ c .if1 .left)
 
-  largest : Largest (between (turn .before .loop .start) (start .args .last)) (turn .trailing-zeros .result)
+  largest : Largest (wordsRange (turn .before .loop .start) (start .args .last)) (turn .trailing-zeros .result)
   largest = step.by-zeros 128 _ _ _ (turn .trailing-zeros .ensures) (below start) (walk.ends-by (c .before .before .last-of .ensures) (le-of-lt not-yet))
 
   known : walked (turn .before .loop .start) (start .args .last)
       ≡ prefix (numberOf (turn .before .loop .start)) (turn .trailing-zeros .result)
       ∷ prefixesOf 128 (from-to (numberOf (turn .before .loop .start) + 2 ^ (turn .trailing-zeros .result)) (numberOf (start .args .last)))
-  known = first-prefix 128 (between (turn .before .loop .start) (start .args .last)) (turn .trailing-zeros .result) (below start) largest
+  known = first-prefix 128 (wordsRange (turn .before .loop .start) (start .args .last)) (turn .trailing-zeros .result) (below start) largest
 
   inside : turn .before .loop .at + (start .args .width + 1) ≤ length (turn .before .loop .out)
   inside = entry-inside (turn .before .loop .inv .1) known (start .pre .1)
@@ -128,7 +128,7 @@ add-at-2 c = omega (arith, fits (entry c))
 add-n : tie.Need-add-n Inv-loop μ-loop
 add-n c =
     let s = start (entry c) in
-    omega (arith, few-entered (turn (entry c) .before .loop .inv .1) (more c), at-most-254 (between (s .args .first) (s .args .last)) (below s))
+    omega (arith, few-entered (turn (entry c) .before .loop .inv .1) (more c), at-most-254 (wordsRange (s .args .first) (s .args .last)) (below s))
 
 loop-less : tie.Need-loop-less Inv-loop μ-loop
 loop-less c = walk.falls 128 (below (start (entry c))) (largest (entry c)) (c .after .ensures) (forward c)

@@ -6,14 +6,14 @@ use native.Mathlib.Omega.{arith}
 use borrow.Author.Tests.{leb-true, leb-false}
 use lib.ListN.{length}
 use denote.Ref.{now}
-use Rattle.address.specs.Words.{numberOf}
-use Rattle.listing.proofs.Writing.{rest-length, kept-length, rest-fits}
+use Rattle.octets.specs.Words.{numberOf}
+use Rattle.output.proofs.Writing.{rest-length, kept-length, rest-fits}
 use Rattle.cidr.specs.Prefixes.{prefix, from-to, prefixesOf}
 use Rattle.cidr.specs.First.{Largest}
 use Rattle.cidr.proofs.Multiples.{sum, itself, of-remainder, to-remainder}
 use Rattle.cidr.proofs.Greedy.{first-prefix}
 use Rattle.cidr.proofs.Step as step
-use Rattle.next_prefix.specs.Walked.{between, walked}
+use Rattle.next_prefix.specs.Walked.{wordsRange, walked}
 use Rattle.prefixes.specs.Entries.{fallen, Falling, Entered}
 use Rattle.next_prefix.proofs.Walk as walk
 use Rattle.prefixes.proofs.Falling.{same-last, positive-after, below-after, few-after}
@@ -32,12 +32,12 @@ module _ (c : tie.After-cap) where
   abbrev start : tie.Start
   start = c .before .before .before
 
-  largest : Largest (between (start .args .first) (start .args .last)) (c .cap .result)
+  largest : Largest (wordsRange (start .args .first) (start .args .last)) (c .cap .result)
   largest = step.by-room (start .pre .1) (c .before .remaining .ensures) (c .cap .ensures .1)
 
   known : walked (start .args .first) (start .args .last)
       ≡ prefix (numberOf (start .args .first)) (c .cap .result) ∷ prefixesOf 128 (from-to (numberOf (start .args .first) + 2 ^ (c .cap .result)) (numberOf (start .args .last)))
-  known = first-prefix 128 (between (start .args .first) (start .args .last)) (c .cap .result) (below start) largest
+  known = first-prefix 128 (wordsRange (start .args .first) (start .args .last)) (c .cap .result) (below start) largest
 
   roomy : start .args .width + 1 ≤ length (now (start .args .out))
   roomy = omega (arith, entry-inside (nothing-entered (start .args .width) (walked (start .args .first) (start .args .last)) (now (start .args .out))) known (start .pre .2))

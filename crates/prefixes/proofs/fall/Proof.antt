@@ -7,8 +7,8 @@ use borrow.Author.Tests.{eqb-true, eqb-false, not-true, not-false}
 use lib.ListN.{length}
 use lib.Pow.{pow-pos}
 use denote.Ref.{now}
-use Rattle.address.specs.Words.{numberOf}
-use Rattle.listing.proofs.Writing.{rest-length, kept-length}
+use Rattle.octets.specs.Words.{numberOf}
+use Rattle.output.proofs.Writing.{rest-length, kept-length}
 use Rattle.cidr.specs.Prefixes.{Prefix, prefix, from-to, prefixesOf}
 use Rattle.cidr.proofs.Greedy.{first-prefix}
 use Rattle.prefixes.specs.Entries.{fallen, Falling, Entered}

@@ -4,10 +4,10 @@ use mathlib.Core.List.{List}
 use mathlib.Core.Path.{sym, _∙_}
 use borrow.Author.Tests.{leb-true, leb-false, not-true, not-false}
 use denote.Ref.{now}
-use Rattle.address.specs.Number.{Bytes}
-use Rattle.address.specs.Words.{numberOf}
-use Rattle.address.specs.declared.Words.{Words}
-use Rattle.listing.proofs.Writing.{all-put, nothing-put}
+use Rattle.octets.specs.Number.{Bytes}
+use Rattle.octets.specs.Words.{numberOf}
+use Rattle.octets.specs.declared.Words.{Words}
+use Rattle.output.proofs.Writing.{all-put, nothing-put}
 use Rattle.next_prefix.specs.Walked.{walked}
 use Rattle.prefix_bytes.specs.Entry.{entriesOf}
 use Rattle.prefixes.specs.Entries.{Ordered}

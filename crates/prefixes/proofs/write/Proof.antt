@@ -2,7 +2,7 @@
 use Prim.Native.Nat.{_+_, _≤_}
 use native.Mathlib.Omega.{arith}
 use lib.ListN.{length}
-use Rattle.listing.proofs.Writing.{rest-length, rest-fits}
+use Rattle.output.proofs.Writing.{rest-length, rest-fits}
 use Rattle.prefix_bytes.specs.Entry.{entriesOf}
 use Rattle.next_prefix.specs.Walked.{walked}
 use Rattle.prefix_bytes.proofs.Widths.{at-most-sixteen}

@@ -2,7 +2,7 @@
 use mathlib.Core.Path.{ap}
 use native.Mathlib.Omega.{arith}
 use lib.ListN.{length, length-append}
-use Rattle.listing.proofs.Writing.{rest-length}
+use Rattle.output.proofs.Writing.{rest-length}
 use borrow.Author.Needs.{needs}
 use Rattle.rdap_prefixes.proofs.put_list.Statement.{statement}
 use Rattle.rdap_prefixes.proofs.put_list.Tie as tie

@@ -5,16 +5,16 @@ use Rattle.rdap_prefixes.proofs.write_lists.Statement.{statement}
 use Rattle.rdap_prefixes.proofs.write_lists.Tie as tie
 
 abbrev Inv-loop : tie.InvT-loop
-Inv-loop image places until format all out₀ at₀ i₀ out at i = i ≤ until
+Inv-loop image starts until format all out₀ at₀ i₀ out at i = i ≤ until
 
 abbrev μ-loop : tie.MeasureT-loop
-μ-loop image places until format all out₀ at₀ i₀ out at i = until - i
+μ-loop image starts until format all out₀ at₀ i₀ out at i = until - i
 
 loop-holds : tie.Need-loop-holds Inv-loop μ-loop
 loop-holds c = search needs
 
-place-of-requires : tie.Need-place-of-requires Inv-loop μ-loop
-place-of-requires c κs = search needs
+start-of-requires : tie.Need-start-of-requires Inv-loop μ-loop
+start-of-requires c κs = search needs
 
 is-listed-requires : tie.Need-is-listed-requires Inv-loop μ-loop
 is-listed-requires c κs = search needs
@@ -53,7 +53,7 @@ write-lists-spec =
     Inv-loop
     μ-loop
     loop-holds
-    place-of-requires
+    start-of-requires
     is-listed-requires
     put-next-requires
     enum-known-next

@@ -5,7 +5,7 @@ use borrow.Author.Tests.{eq-eqb, ne-eqb}
 use native.Mathlib.Omega.{arith}
 use lib.ListN.{length}
 use denote.Ref.{now}
-use Rattle.records.specs.Record.{widthOf}
+use Rattle.registry.specs.Tags.{widthOf}
 use Rattle.records.proofs.Contents.{ranged, ends, bad-status, good-range}
 use Rattle.records.proofs.block_ok.Statement.{statement}
 use Rattle.records.proofs.block_ok.Tie as tie

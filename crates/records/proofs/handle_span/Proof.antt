@@ -1,7 +1,7 @@
 -- The test of the tag chooses the number of fields before it, as the definition does.
 use mathlib.Core.Path.{_∙_}
 use borrow.Author.Needs.{needs}
-use Rattle.records.specs.Place.{handleSpan}
+use Rattle.records.specs.Positions.{handleSpan}
 use Rattle.records.proofs.handle_span.Statement.{statement}
 use Rattle.records.proofs.handle_span.Tie as tie
 

@@ -3,7 +3,7 @@ use mathlib.Core.Path.{_∙_, ap, sym}
 use lib.Seq.{length-take-le}
 use borrow.Author.Needs.{needs}
 use Rattle.fields.proofs.Fields.{front-after}
-use Rattle.records.specs.Place.{spanFrom}
+use Rattle.records.specs.Positions.{spanFrom}
 use Rattle.records.proofs.inner_span.Statement.{statement}
 use Rattle.records.proofs.inner_span.Tie as tie
 

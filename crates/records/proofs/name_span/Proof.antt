@@ -1,7 +1,7 @@
 -- The test of the tag chooses the number of fields before it, as the definition does.
 use mathlib.Core.Path.{_∙_}
 use borrow.Author.Needs.{needs}
-use Rattle.records.specs.Place.{nameSpan}
+use Rattle.records.specs.Positions.{nameSpan}
 use Rattle.records.proofs.name_span.Statement.{statement}
 use Rattle.records.proofs.name_span.Tie as tie
 

@@ -1,7 +1,7 @@
 -- The test of the tag chooses whether there is a range, as the definition does.
 use mathlib.Core.Path.{_∙_}
 use borrow.Author.Needs.{needs}
-use Rattle.records.specs.Place.{rangeSpan}
+use Rattle.records.specs.Positions.{rangeSpan}
 use Rattle.records.proofs.range_span.Statement.{statement}
 use Rattle.records.proofs.range_span.Tie as tie
 

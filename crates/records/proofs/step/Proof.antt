@@ -1,7 +1,7 @@
 -- A reader of the image up to `end` reads what ends there.
 use mathlib.Core.Path.{sym, ap, _∙_}
 use lib.Seq.{length-take-le}
-use Rattle.fields.specs.Place.{endBetween}
+use Rattle.fields.specs.Positions.{endBetween}
 use Rattle.fields.proofs.Fields.{front-at}
 use borrow.Author.Needs.{needs}
 use Rattle.records.proofs.step.Statement.{statement}

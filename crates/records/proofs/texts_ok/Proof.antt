@@ -3,7 +3,7 @@ use mathlib.Core.Path.{sym, _∙_, ap}
 use borrow.Author.Tests.{not-true, not-false}
 use native.Mathlib.Omega.{arith}
 use denote.Ref.{now}
-use Rattle.name.specs.Texts.{goodText}
+use Rattle.texts.specs.Texts.{goodText}
 use Rattle.records.specs.Record.{goodName}
 use Rattle.records.proofs.Layouts.{handle-end, name-start, handle-bytes, name-bytes, texts-bad, texts-by-name}
 use borrow.Author.Needs.{needs}

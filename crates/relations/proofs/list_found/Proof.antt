@@ -1,5 +1,5 @@
 -- By what is asked: one block at most, or those inside.
-use Rattle.listing.proofs.Reports.{same-reported}
+use Rattle.output.proofs.Reports.{same-reported}
 use Rattle.relations.specs.Finding.{foundIn}
 use borrow.Author.Needs.{needs}
 use Rattle.relations.proofs.list_found.Statement.{statement}

@@ -1,5 +1,5 @@
 -- What was collected is reported.
-use Rattle.listing.proofs.Reports.{in-hits, as-many, few-reported, reported}
+use Rattle.output.proofs.Reports.{in-hits, as-many, few-reported, reported}
 use borrow.Author.Needs.{needs}
 use Rattle.relations.proofs.list_inside.Statement.{statement}
 use Rattle.relations.proofs.list_inside.Tie as tie

@@ -3,7 +3,7 @@ use Prim.Native.Nat.{_≤_, _-_}
 use native.Mathlib.Omega.{arith}
 use borrow.Author.Tests.{not-true}
 use mathlib.Core.Path.{_≡_}
-use Rattle.address.specs.Lists.{any}
+use Rattle.octets.specs.Lists.{any}
 use Rattle.address.specs.Address.{numbers}
 use Rattle.address.specs.Ranges.{strictlyInside}
 use Rattle.scans.specs.Standing.{blocksIn}
@@ -14,18 +14,18 @@ use Rattle.scans.proofs.any_inside.Statement.{statement}
 use Rattle.scans.proofs.any_inside.Tie as tie
 
 abbrev Inv-loop : tie.InvT-loop
-Inv-loop image places blocks range width i₀ i =
+Inv-loop image starts blocks range width i₀ i =
     (blocks .from ≤ i)
     × (i ≤ blocks .until)
-    × (any (λ b. strictlyInside (b .range) (numbers range)) (blocksLeft image (blocks .first) i)
-    ≡ any (λ b. strictlyInside (b .range) (numbers range)) (blocksIn image (blocks .first)))
+    × (any (λ b. strictlyInside (b .range) (numbers range)) (blocksLeft image (blocks .low) i)
+    ≡ any (λ b. strictlyInside (b .range) (numbers range)) (blocksIn image (blocks .low)))
 
 abbrev μ-loop : tie.MeasureT-loop
-μ-loop image places blocks range width i₀ i = blocks .until - i
+μ-loop image starts blocks range width i₀ i = blocks .until - i
 
 -- the record of this turn
 here : (c : tie.After-range-start Inv-loop μ-loop) → let a = c .before .before .before .before .before .before .args in
-    Here (a .image .now) (a .places .now) (a .blocks) (a .range) (c .before .before .before .loop .i) (c .range-start .result) (c .before .before .before .before .width-of .result)
+    Here (a .image .now) (a .starts .now) (a .blocks) (a .range) (c .before .before .before .loop .i) (c .range-start .result) (c .before .before .before .before .width-of .result)
 here c =
     let w = c .before .before .before .before .width-of .ensures .0 in
     record { asked = c .before .before .before .before .before .before .pre; low = c .before .before .before .loop .inv .0; high = c .before .if1 .taken; start = c .range-start .ensures; wide = w }

@@ -7,10 +7,10 @@ use mathlib.Core.List.{_++_, append-nil}
 use mathlib.Core.Path.{_≡_, sym, ap, _∙_}
 use lib.ListN.{length, take}
 use Rattle.address.specs.Address.{numbers}
-use Rattle.address.specs.Positions.{numberIn}
-use Rattle.blocks.specs.Relations.{down}
-use Rattle.blocks.specs.Scans.{downPass}
-use Rattle.blocks.proofs.Scans.{down-scan}
+use Rattle.octets.specs.Positions.{numberIn}
+use Rattle.forest.specs.Relations.{down}
+use Rattle.forest.specs.Scans.{downPass}
+use Rattle.forest.proofs.Scans.{down-scan}
 use Rattle.scans.specs.Standing.{blocksIn}
 use Rattle.scans.specs.Tests.{freeAfter}
 use Rattle.scans.proofs.Walks.{blocksLeft, run-start, run-end, within, asked-accepted, asked-few, Here, comparable}
@@ -20,21 +20,21 @@ use Rattle.scans.proofs.children.Statement.{statement}
 use Rattle.scans.proofs.children.Tie as tie
 
 abbrev Inv-loop : tie.InvT-loop
-Inv-loop image places blocks range hits₀ width n₀ kept₀ i₀ hits n kept i =
+Inv-loop image starts blocks range hits₀ width n₀ kept₀ i₀ hits n kept i =
     (blocks .from ≤ i)
     × (i ≤ blocks .until)
     × (n ≤ i)
     × (length hits ≡ 4096)
     × (0 < n → kept + 2 * width ≤ length image)
-    × (take n hits ++ downPass (numbers range) (freeAfter n (numberIn image (kept + width) width)) (blocksLeft image (blocks .first) i)
-    ≡ down (blocksIn image (blocks .first)) (numbers range))
+    × (take n hits ++ downPass (numbers range) (freeAfter n (numberIn image (kept + width) width)) (blocksLeft image (blocks .low) i)
+    ≡ down (blocksIn image (blocks .low)) (numbers range))
 
 abbrev μ-loop : tie.MeasureT-loop
-μ-loop image places blocks range hits₀ width n₀ kept₀ i₀ hits n kept i = blocks .until - i
+μ-loop image starts blocks range hits₀ width n₀ kept₀ i₀ hits n kept i = blocks .until - i
 
 -- the record of this turn
 here : (c : tie.After-range-start Inv-loop μ-loop) → let a = c .before .before .before .before .before .before .args in
-    Here (a .image .now) (a .places .now) (a .blocks) (a .range) (c .before .before .before .loop .i) (c .range-start .result) (c .before .before .before .before .width-of .result)
+    Here (a .image .now) (a .starts .now) (a .blocks) (a .range) (c .before .before .before .loop .i) (c .range-start .result) (c .before .before .before .before .width-of .result)
 here c =
     let w = c .before .before .before .before .width-of .ensures .0 in
     record { asked = c .before .before .before .before .before .before .pre .0; low = c .before .before .before .loop .inv .0; high = c .before .if1 .taken; start = c .range-start .ensures; wide = w }

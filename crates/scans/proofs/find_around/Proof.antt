@@ -16,13 +16,13 @@ use Rattle.scans.proofs.find_around.Statement.{statement}
 use Rattle.scans.proofs.find_around.Tie as tie
 
 abbrev Inv-loop : tie.InvT-loop
-Inv-loop image places blocks range width strict first found₀ i₀ found i =
+Inv-loop image starts blocks range width strict first found₀ i₀ found i =
     (blocks .from ≤ i)
     × (i ≤ blocks .until)
-    × Passing first (λ b. surroundsBy strict (b .range) (numbers range)) (blocksLeft image (blocks .first) i) found (passed first strict image blocks range)
+    × Passing first (λ b. surroundsBy strict (b .range) (numbers range)) (blocksLeft image (blocks .low) i) found (passed first strict image blocks range)
 
 abbrev μ-loop : tie.MeasureT-loop
-μ-loop image places blocks range width strict first found₀ i₀ found i = blocks .until - i
+μ-loop image starts blocks range width strict first found₀ i₀ found i = blocks .until - i
 
 width-of-requires : tie.Need-width-of-requires Inv-loop μ-loop
 width-of-requires c κs = search needs
@@ -35,7 +35,7 @@ is-first-requires c κs = search needs
 
 -- what the pass finds is what is asked
 answer : (c : tie.After-is-first Inv-loop μ-loop) → let a = c .before .before .before .before .args in
-    passed (c .is-first .result) (c .before .is-strict .result) (now (a .image)) (a .blocks) (a .range) ≡ aroundIn (a .which) (blocksIn (now (a .image)) (a .blocks .first)) (numbers (a .range))
+    passed (c .is-first .result) (c .before .is-strict .result) (now (a .image)) (a .blocks) (a .range) ≡ aroundIn (a .which) (blocksIn (now (a .image)) (a .blocks .low)) (numbers (a .range))
 answer c =
     let start = c .before .before .before .before in
     run-scan (start .pre) (start .args .which) (c .before .is-strict .ensures) (c .is-first .ensures)
@@ -54,7 +54,7 @@ range-start-requires c κs =
 here : (c : tie.After-range-start Inv-loop μ-loop) → let walk = c .before .before .before in
     let wide = walk .before .before .before in
     let a = wide .before .before .args in
-    Here (now (a .image)) (now (a .places)) (a .blocks) (a .range) (walk .loop .i) (c .range-start .result) (wide .width-of .result)
+    Here (now (a .image)) (now (a .starts)) (a .blocks) (a .range) (walk .loop .i) (c .range-start .result) (wide .width-of .result)
 here c =
     let walk = c .before .before .before in
     let wide = walk .before .before .before in

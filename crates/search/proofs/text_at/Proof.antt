@@ -5,7 +5,7 @@ use lib.ListN.{length}
 use denote.Ref.{now}
 use Rattle.fields.specs.Slices.{part-slice}
 use Rattle.records.specs.declared.Span.{Span}
-use Rattle.records.specs.Place.{bytesOf, Inside}
+use Rattle.records.specs.Positions.{bytesOf, Inside}
 use Rattle.search.proofs.text_at.Statement.{statement}
 use Rattle.search.proofs.text_at.Tie as tie
 

@@ -5,16 +5,16 @@ use Rattle.rdap_prefixes.proofs.names.clash_in.Statement.{statement}
 use Rattle.rdap_prefixes.proofs.names.clash_in.Tie as tie
 
 abbrev Inv-loop : tie.InvT-loop
-Inv-loop image places from until format all table₀ i₀ table i = from ≤ i
+Inv-loop image starts from until format all table₀ i₀ table i = from ≤ i
 
 abbrev μ-loop : tie.MeasureT-loop
-μ-loop image places from until format all table₀ i₀ table i = until - i
+μ-loop image starts from until format all table₀ i₀ table i = until - i
 
 loop-holds : tie.Need-loop-holds Inv-loop μ-loop
 loop-holds c = search needs
 
-place-of-requires : tie.Need-place-of-requires Inv-loop μ-loop
-place-of-requires c κs = search needs
+start-of-requires : tie.Need-start-of-requires Inv-loop μ-loop
+start-of-requires c κs = search needs
 
 is-listed-requires : tie.Need-is-listed-requires Inv-loop μ-loop
 is-listed-requires c κs = search needs
@@ -50,7 +50,7 @@ clash-in-spec =
     Inv-loop
     μ-loop
     loop-holds
-    place-of-requires
+    start-of-requires
     is-listed-requires
     enter-requires
     enum-known-first

@@ -1,14 +1,14 @@
--- Safe, and ends: the measure is the number of places that are left.
+-- Safe, and ends: the measure is the number of slots that are left.
 use Prim.Native.Nat.{_≤_, _<_, _-_}
 use borrow.Author.Needs.{needs}
 use Rattle.rdap_prefixes.proofs.names.find.Statement.{statement}
 use Rattle.rdap_prefixes.proofs.names.find.Tie as tie
 
 abbrev Inv-loop : tie.InvT-loop
-Inv-loop image places table format name start step₀ step = (start < 8192) × (step ≤ 8192)
+Inv-loop image starts table format name start step₀ step = (start < 8192) × (step ≤ 8192)
 
 abbrev μ-loop : tie.MeasureT-loop
-μ-loop image places table format name start step₀ step = 8192 - step
+μ-loop image starts table format name start step₀ step = 8192 - step
 
 hash-of-requires : tie.Need-hash-of-requires Inv-loop μ-loop
 hash-of-requires c κs = search needs
@@ -31,8 +31,8 @@ returns c = search needs
 sub-number : tie.Need-sub-number Inv-loop μ-loop
 sub-number c = search needs
 
-place-of-requires : tie.Need-place-of-requires Inv-loop μ-loop
-place-of-requires c κs = search needs
+start-of-requires : tie.Need-start-of-requires Inv-loop μ-loop
+start-of-requires c κs = search needs
 
 has-name-requires : tie.Need-has-name-requires Inv-loop μ-loop
 has-name-requires c κs = search needs
@@ -65,7 +65,7 @@ find-spec =
     element-copy-out-entry
     returns
     sub-number
-    place-of-requires
+    start-of-requires
     has-name-requires
     returns-2
     add-step

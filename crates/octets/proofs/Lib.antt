@@ -1,0 +1,14 @@
+pub mod Tests
+pub mod Connectives
+pub mod Bytes
+pub mod Order
+pub mod Comparing
+pub mod Digits
+pub mod Pairs
+pub mod Parts
+pub mod Below
+pub mod Found
+pub mod Scans
+pub mod Pieces
+pub mod Cuts
+pub mod Fronts

@@ -1,6 +1,0 @@
-pub mod Tests
-pub mod Found
-pub mod Scans
-pub mod Pieces
-pub mod Cuts
-pub mod Fronts

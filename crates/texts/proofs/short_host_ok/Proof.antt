@@ -1,0 +1,46 @@
+-- `short_host_ok`: pairs, first byte and last byte are the rule, as no label can be too long.
+use mathlib.Core.Path.{_∙_, sym}
+use borrow.Author.Tests.{not-true, not-false}
+use borrow.Author.Needs.{needs}
+use Rattle.texts.proofs.Hosts as hosts
+use Rattle.texts.proofs.short_host_ok.Statement.{statement}
+use Rattle.texts.proofs.short_host_ok.Tie as tie
+
+host-pairs-requires : tie.Need-host-pairs-requires
+host-pairs-requires c κs = search needs
+
+returns : tie.Need-returns
+returns c = hosts.host-unpaired _ (search needs) (search needs) (sym (c .before .host-pairs .ensures) ∙ not-true _ (c .if1 .taken))
+
+shared-slice-read-letter-or-digit : tie.Need-shared-slice-read-letter-or-digit
+shared-slice-read-letter-or-digit c = search needs
+
+letter-or-digit-requires : tie.Need-letter-or-digit-requires
+letter-or-digit-requires c κs = search needs
+
+sub-letter-or-digit : tie.Need-sub-letter-or-digit
+sub-letter-or-digit c = search needs
+
+shared-slice-read-letter-or-digit-2 : tie.Need-shared-slice-read-letter-or-digit-2
+shared-slice-read-letter-or-digit-2 c = search needs
+
+letter-or-digit-requires-2 : tie.Need-letter-or-digit-requires-2
+letter-or-digit-requires-2 c κs = search needs
+
+returns-2 : tie.Need-returns-2
+returns-2 c =
+    rw (c .before .before .letter-or-digit .ensures, c .letter-or-digit2 .ensures)
+    (hosts.host-paired _ (search needs) (search needs) (sym (c .before .before .before .before .before .host-pairs .ensures) ∙ not-false _ (c .before .before .before .before .if1 .left)))
+
+pub short-host-ok-spec : {M : Type 1} → statement M
+short-host-ok-spec =
+    tie.close
+    (tie.spec
+    host-pairs-requires
+    returns
+    shared-slice-read-letter-or-digit
+    letter-or-digit-requires
+    sub-letter-or-digit
+    shared-slice-read-letter-or-digit-2
+    letter-or-digit-requires-2
+    returns-2)
