@@ -1,7 +1,7 @@
 #!/usr/bin/env bash
 # Tries the must-fail edits of one crate alone, or one of them, each by `rt dev` in a copy of the repository: seconds an edit.
 # (`rt must-fail CRATE` tries those of the crates below too.) What is below the crate is proved first, if it is not.
-# usage: tests/must_fail.sh CRATE [EDIT], as in tests/must_fail.sh listing nothing_written
+# usage: tests/must_fail.sh CRATE [EDIT], as in tests/must_fail.sh output nothing_written
 # For each edit: whether it is refused, the seconds, and the first error, which should be at the fact that no longer holds.
 # An edit that is accepted, that does not reach the prover, or whose 'old:' does not occur exactly once, fails.
 # The last line is 'N passed, M failed'.
