@@ -12,7 +12,7 @@ use Rattle.output.specs.Listing.{foundNumbers}
 use Rattle.search.specs.Search.{numbersFrom, isCalled}
 use Rattle.by_name.specs.declared.Sought.{Sought}
 
--- S4.6: the records with the tags from first to last are sorted by this text.
+-- S4.6: the records with the tags from low to high are sorted by this text.
 pub data SortedBy : (low high : ℕ) → Text → Type 0 where
   domains : SortedBy domain domain Host
   nameservers : SortedBy nameserver nameserver Host

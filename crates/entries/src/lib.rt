@@ -46,7 +46,7 @@ pub fn first_from(image: &[u8], starts: &PerRecord, count: u32, tag: u8) -> u32
     low
 }
 
-// The records of a sound image with a tag from first to last.
+// The records of a sound image with a tag from low to high.
 pub fn run_of(image: &[u8], starts: &PerRecord, count: u32, low: u8, high: u8) -> Run
     requires { ⌜ Indexed (now image) count (now starts) × (low ≤ high) × (high ≤ entity) ⌝ }
     ensures { λ r. ⌜ (r .low ≡ low) × (r .high ≡ high) × RunOf (now (image .entry)) count r ⌝ }

@@ -65,7 +65,7 @@ pub record FirstFrom (s : List ℕ) (count tag r : ℕ) : Type 0 where
   pub below : (i : ℕ) → i < r → tagOf s i < tag
   pub above : (i : ℕ) → r ≤ i → i < count → tag ≤ tagOf s i
 
--- The records of a sound image with a tag from first to last are those of the run.
+-- The records of a sound image with a tag from low to high are those of the run.
 pub record RunOf (s : List ℕ) (count : ℕ) (run : Run) : Type 0 where
   pub forward : run .from ≤ run .until
   pub ends : run .until ≤ count

@@ -8,7 +8,7 @@ use native.Mathlib.Numerals.{add-one}
 use borrow.Author.Tests.{lt-ltb}
 use lib.Dec.{ltb}
 use lib.ListN.{length, getD, take, drop, length-append, length-take, length-drop, take-append-drop, drop-of-length-le}
-use lib.Seq.{slice, take-suc, drop-cons, length-slice, take-take, drop-drop, length-take-le}
+use lib.Seq.{slice, take-suc, drop-cons, length-slice, drop-drop, length-take-le}
 use Rattle.fields.specs.Field.{field, headOf, sizeOf}
 use Rattle.fields.specs.Positions.{fieldAt, behind, passed}
 use Rattle.fields.specs.declared.Field.{Field}
@@ -58,14 +58,6 @@ module _ (image changes index : List ℕ) where
       → size + n ≡ length (rowOf (entriesAt image changes (take (i + 1) index)))
   size-next i h size n e f =
       omega (arith, ap length (row-next i h), length-append (rowOf (entriesAt image changes (take i index))) (bytesAt image changes (getD index i 0)))
-
-  pub row-rises : (i n : ℕ) → i ≤ n → length (rowOf (entriesAt image changes (take i index))) ≤ length (rowOf (entriesAt image changes (take n index)))
-  row-rises i n h =
-      let e : take n index ≡ take i index ++ drop i (take n index) = sym (ap (λ (l : List ℕ). l ++ drop i (take n index)) (sym (take-take i n index h)) ∙ take-append-drop i (take n index)) in
-      let f : rowOf (entriesAt image changes (take n index)) ≡ rowOf (entriesAt image changes (take i index)) ++ rowOf (entriesAt image changes (drop i (take n index))) =
-      ap (λ (l : List ℕ). rowOf (entriesAt image changes l)) e ∙ ap rowOf (entries-append image changes (take i index) (drop i (take n index)))
-      ∙ row-append (entriesAt image changes (take i index)) (entriesAt image changes (drop i (take n index))) in
-      omega (arith, ap length f, length-append (rowOf (entriesAt image changes (take i index))) (rowOf (entriesAt image changes (drop i (take n index)))))
 
 -- a field is not longer than what holds it
 field-bound : (s : List ℕ) (at : ℕ) (f : Field) → f ≡ fieldAt s at (length s) → length (fieldBytes s at) ≤ length s

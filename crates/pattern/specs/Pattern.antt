@@ -5,7 +5,7 @@ use mathlib.Core.List.{List, [], _∷_}
 use mathlib.Core.Bool.{Bool, true, false, cond, not, _&&_, _||_}
 use lib.Dec.{eqb, leb, ltb}
 use lib.ListN.{length, getD, take, drop}
-use Rattle.registry.specs.Limits.{mostHost}
+use Rattle.registry.specs.Limits.{mostHost, mostText}
 use Rattle.octets.specs.Lists.{within, every, contains}
 use Rattle.octets.specs.Split.{split}
 use Rattle.texts.specs.Host.{isLabelByte}
@@ -22,8 +22,8 @@ isHost Host = true
 
 -- S9.1: 1 to 64 bytes (host names 253)
 abbrev pub longest : Text → ℕ
-longest Handle = 64
-longest Name = 64
+longest Handle = mostText
+longest Name = mostText
 longest Host = mostHost
 
 -- S9.1: the field's characters or asterisks; host-name patterns may hold letters, digits, hyphen, dot, asterisk.

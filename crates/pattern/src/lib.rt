@@ -7,6 +7,7 @@ ghost use Rattle.octets.specs.Split.{split};
 ghost use Rattle.texts.specs.Host.{isLabelByte};
 ghost use Rattle.pattern.specs.Pattern.{isHost, longest, patternByte, isPattern, isSuffix, formOf, patternOf, matches, matchesForm, foldsCase};
 use registry::MOST_HOST;
+use registry::MOST_TEXT;
 
 // What a pattern's asterisks make of it: none, or one that is supported, at this place; and the two refusals, reason 7 and reason 6.
 pub enum Form {
@@ -42,8 +43,8 @@ fn longest_pattern(text: Text) -> usize
     ensures { λ r. ⌜ r ≡ longest text ⌝ }
 {
     match text {
-        Text::Handle => 64,
-        Text::Name => 64,
+        Text::Handle => MOST_TEXT,
+        Text::Name => MOST_TEXT,
         Text::Host => MOST_HOST,
     }
 }

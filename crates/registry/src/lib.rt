@@ -1,9 +1,7 @@
 // The words that the path and the image share: the tags of records, what a record has, the relations, the limits.
 ghost use mathlib.Core.Path.{_≡_};
 ghost use Prim.Native.Nat.{_≤_};
-ghost use lib.Dec.{leb};
-ghost use Rattle.registry.specs.Tags.{isBlock, isKnown, widthOf};
-ghost use Rattle.registry.specs.Limits.{mostImage, mostPath};
+ghost use Rattle.registry.specs.Tags.{widthOf};
 
 // The tags of records (S4.3). Those up to the AS block are blocks.
 pub const IPV4_NETWORK: u8 = 0x10;
@@ -63,37 +61,9 @@ pub enum Relation {
     Bottom,
 }
 
-// Whether records of the tag are blocks.
-pub fn is_block(tag: u8) -> bool
-    ensures { λ r. ⌜ r ≡ isBlock tag ⌝ }
-{
-    (IPV4_NETWORK <= tag) & (tag <= AS_BLOCK)
-}
-
-// Whether there are records of the tag.
-pub fn is_known(tag: u8) -> bool
-    ensures { λ r. ⌜ r ≡ isKnown tag ⌝ }
-{
-    (IPV4_NETWORK <= tag) & (tag <= ENTITY)
-}
-
 // The bytes of an address or number of a block.
 pub fn width_of(tag: u8) -> usize
     ensures { λ r. ⌜ (r ≡ widthOf tag) × (r ≤ 16) ⌝ }
 {
     if tag == IPV6_NETWORK { 16 } else { 4 }
-}
-
-// Whether an image is not too long.
-pub fn fits_image(len: usize) -> bool
-    ensures { λ r. ⌜ r ≡ leb len mostImage ⌝ }
-{
-    len <= MOST_IMAGE
-}
-
-// Whether a path is not too long.
-pub fn fits_path(len: usize) -> bool
-    ensures { λ r. ⌜ r ≡ leb len mostPath ⌝ }
-{
-    len <= MOST_PATH
 }

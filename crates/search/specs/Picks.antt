@@ -9,6 +9,6 @@ use Rattle.records.specs.Record.{Record}
 use Rattle.image.specs.Part.{contentsOf}
 use Rattle.registry.specs.declared.Part.{Part}
 
--- a tag from first to last, and a part of the record that matches; fold says whether case is folded
+-- a tag from low to high, and a part of the record that matches; fold says whether case is folded
 abbrev pub picksRecord : ℕ → ℕ → Part → Bool → Form → List ℕ → Record → Bool
 picksRecord low high which fold form pattern r = within low high (r .tag) && matchesForm fold form pattern (contentsOf which r)

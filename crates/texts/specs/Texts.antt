@@ -5,6 +5,7 @@ use Prim.Native.Nat.{ℕ}
 use Prim.Native.Char.{code}
 use lib.Dec.{eqb}
 use lib.ListN.{length}
+use Rattle.registry.specs.Limits.{mostText}
 use Rattle.octets.specs.Lists.{within, every}
 use Rattle.texts.specs.Host.{isHostName}
 
@@ -14,7 +15,7 @@ textByte low b = within low 0x7E b && not (eqb b (code "*"))
 
 -- 1 to 64 such bytes
 unfoldable pub goodText : ℕ → List ℕ → Bool
-goodText low s = within 1 64 (length s) && every (textByte low) s
+goodText low s = within 1 mostText (length s) && every (textByte low) s
 
 -- a host name in lower case: without capitals
 unfoldable pub goodHost : List ℕ → Bool

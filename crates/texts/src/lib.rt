@@ -15,6 +15,7 @@ ghost use Rattle.texts.specs.Compare.{foldIf, alike};
 ghost use Rattle.texts.specs.HostScan.{letterOrDigit};
 ghost use Rattle.texts.specs.Run.{run, textAt, mayFollow, followAt};
 use registry::MOST_HOST;
+use registry::MOST_TEXT;
 
 // Whether the n bytes from at on are from low to 7E, with no asterisk.
 fn text_run(s: &[u8], low: u8, at: usize, n: usize) -> bool
@@ -60,7 +61,7 @@ pub fn text_ok(s: &[u8], low: u8) -> bool
     if n < 1 {
         return false;
     }
-    if 64 < n {
+    if MOST_TEXT < n {
         return false;
     }
     text_run(s, low, 0, n)
@@ -90,7 +91,7 @@ pub fn handle_ok(s: &[u8]) -> bool
     if n <= 48 {
         return text_thirds(s, 0x21, 16);
     }
-    if n <= 64 {
+    if n <= MOST_TEXT {
         return text_ends(s, 0x21, 32);
     }
     false
@@ -119,7 +120,7 @@ pub fn name_ok(s: &[u8]) -> bool
     if n <= 48 {
         return text_thirds(s, 0x20, 16);
     }
-    if n <= 64 {
+    if n <= MOST_TEXT {
         return text_ends(s, 0x20, 32);
     }
     false
