@@ -1,6 +1,6 @@
 -- The status and the range of a block by their positions, and defect 5 by these.
-use mathlib.Core.Path.{_≡_, sym, _∙_, ap}
-use mathlib.Core.Bool.{true, false}
+use mathlib.Core.Path.{_≡_, refl, sym, _∙_, ap}
+use mathlib.Core.Bool.{Bool, true, false, _&&_}
 use mathlib.Core.List.{List}
 use Prim.Native.Nat.{ℕ, suc, _+_, _-_, _*_, _≤_, _<_}
 use borrow.Author.Tests.{le-leb, lt-leb}
@@ -9,6 +9,7 @@ use lib.Dec.{leb}
 use lib.ListN.{length, getD}
 use lib.Seq.{slice, slice-cons, slice-empty, take-nil, drop-nil}
 use Rattle.registry.specs.Tags.{isBlock, widthOf}
+use Rattle.octets.proofs.Connectives.{and-false}
 use Rattle.octets.specs.Number.{value, valueFrom}
 use Rattle.address.specs.Ranges.{rangeFrom, wellFormed}
 use Rattle.octets.specs.Positions.{numberIn}
@@ -34,7 +35,7 @@ range-slice s w at =
 
 module _ (s : List ℕ) (l : Layout) (p : LaidOut (length s) l) where
   -- a record that is no block has no status and no range
-  named-good : 18 < l .tag → goodBlock (recordOn s l) ≡ true
+  pub named-good : 18 < l .tag → goodBlock (recordOn s l) ≡ true
   unfolding value valueFrom wellFormed
   named-good b =
       rw (no-block (l .tag) b, slice-empty (l .start) s, take-nil {A = ℕ} (widthOf (l .tag)), drop-nil {A = ℕ} (widthOf (l .tag)))
@@ -63,15 +64,15 @@ module _ (s : List ℕ) (l : Layout) (p : LaidOut (length s) l) where
     unfolding wellFormed
     good-range h w e = rw (status-on, le-leb _ 1 h, e) (ap wellFormed (sym range-on))
 
-  pub bad-texts : goodTexts (recordOn s l) ≡ false → false ≡ goodContents (recordOn s l)
+  -- defect 5 by the block, then by the texts
+  pub bad-block : goodBlock (recordOn s l) ≡ false → false ≡ goodContents (recordOn s l)
   unfolding goodContents
-  bad-texts e = rw e
+  bad-block e = rw (e, and-false (goodTexts (recordOn s l)))
 
-  module _ (e : goodTexts (recordOn s l) ≡ true) where
-    pub named-contents : 18 < l .tag → true ≡ goodContents (recordOn s l)
-    unfolding goodContents
-    named-contents b = rw (e, named-good b)
-
-    pub block-contents : goodBlock (recordOn s l) ≡ goodContents (recordOn s l)
-    unfolding goodContents
-    block-contents = rw e
+  pub by-texts : goodBlock (recordOn s l) ≡ true → goodTexts (recordOn s l) ≡ goodContents (recordOn s l)
+  unfolding goodContents
+  by-texts e = by-test (goodTexts (recordOn s l))
+    where
+      by-test : (v : Bool) → v ≡ (v && goodBlock (recordOn s l))
+      by-test true = sym e
+      by-test false = refl

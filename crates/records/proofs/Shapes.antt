@@ -141,8 +141,21 @@ exactly size tag = record { low = size; high = size; tag = tag }
 abbrev namedSteps : List Sought
 namedSteps = text 0x21 ∷ text 0x22 ∷ []
 
-abbrev blockSteps : ℕ → List Sought
-blockSteps size = exactly size 0x20 ∷ text 0x21 ∷ text 0x22 ∷ exactly 1 0x23 ∷ []
+abbrev pub statusSteps : List Sought
+statusSteps = exactly 1 0x23 ∷ []
+
+abbrev pub blockSteps : ℕ → List Sought
+blockSteps size = exactly size 0x20 ∷ text 0x21 ∷ text 0x22 ∷ statusSteps
+
+-- field 23 is the last if it starts four bytes before the end, and only then
+pub not-last : (s : List ℕ) (end at : ℕ) → at ≤ end → (end - at ≡ 4 → ⊥) → Stops s end at statusSteps
+not-last s end at h n = by-end (sought (exactly 1 0x23) s at end) refl
+  where
+    by-end : (e : End) → sought (exactly 1 0x23) s at end ≡ e → Stops s end at statusSteps
+    by-end Nothing e = here e
+    by-end (At to) e =
+        let r = reached s end 0x23 at 1 1 to e in
+        later e (over {at = to} (λ z. n (omega (arith, z, r .0 .forward, r .1, r .2))))
 
 not-whole : (r : Record) → malformed ≡ whole r → ⊥
 not-whole r e = let z : _≡_ {A = ℕ} 0 1 = cc in omega arith
@@ -400,12 +413,13 @@ module _ (s : List ℕ) (tag start end : ℕ) (p : start ≤ end) (q : end ≤ l
         })
 
     pub block-shaped : (at middle to last : ℕ) → endBetween size size 0x20 (fieldAt s start end) ≡ At at → endBetween 0 255 0x21 (fieldAt s at end) ≡ At middle
-        → endBetween 0 255 0x22 (fieldAt s middle end) ≡ At to → endBetween 1 1 0x23 (fieldAt s to end) ≡ At last → last ≡ end
+        → endBetween 0 255 0x22 (fieldAt s middle end) ≡ At to → endBetween 1 1 0x23 (fieldAt s to end) ≡ At last → end - to ≡ 4
         → Shaped s tag start end (Shape.Whole (at + 3) middle to)
-    block-shaped at middle to last g h n u z =
+    block-shaped at middle to last g h n u y =
         let a = reached s end 0x20 start size size at g in
         let b = reached s end 0x23 to 1 1 last u in
         let c : at ≡ start + 3 + size = omega (arith, a .0 .forward, a .1, a .2) in
+        let z : last ≡ end = omega (arith, y, b .0 .forward, b .1, b .2) in
         let d : to ≡ end - 4 = omega (arith, z, b .0 .forward, b .1, b .2) in
         let f : BlockFields s size start end middle = record {
           range = rw c at (a .0);

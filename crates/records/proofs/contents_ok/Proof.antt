@@ -1,27 +1,37 @@
--- The texts, and of a block the status and the range (Contents.antt).
-use mathlib.Core.Path.{sym, _∙_}
+-- Of a block the status and the range, then the texts (Contents.antt).
+use mathlib.Core.Path.{_≡_, sym, _∙_}
+use mathlib.Core.Bool.{true}
+use mathlib.Core.Logic.{⊎-elim}
 use borrow.Author.Tests.{not-true, not-false}
 use denote.Ref.{now}
-use Rattle.records.proofs.Contents.{bad-texts, named-contents, block-contents}
+use Rattle.records.specs.Record.{goodBlock}
+use Rattle.records.specs.Layout.{recordOn}
+use Rattle.records.proofs.Contents.{named-good, bad-block, by-texts}
 use borrow.Author.Needs.{needs}
 use Rattle.records.proofs.contents_ok.Statement.{statement}
 use Rattle.records.proofs.contents_ok.Tie as tie
 
-texts-ok-requires : tie.Need-texts-ok-requires
-texts-ok-requires c κs = search needs
-
-returns : tie.Need-returns
-returns c = bad-texts (now (c .before .before .before .args .image)) (c .before .before .before .args .r) (c .before .before .before .pre .laid) (sym (c .before .texts-ok .ensures) ∙ not-true _ (c .if1 .taken))
-
-returns-2 : tie.Need-returns-2
-returns-2 c = named-contents (now (c .before .before .before .before .before .args .image)) (c .before .before .before .before .before .args .r) (c .before .before .before .before .before .pre .laid) (sym (c .before .before .before .texts-ok .ensures) ∙ not-false _ (c .before .before .if1 .left)) (c .if2 .taken)
-
 block-ok-requires : tie.Need-block-ok-requires
 block-ok-requires c κs = search needs
 
-returns-3 : tie.Need-returns-3
-returns-3 c = c .block-ok .ensures ∙ block-contents (now (c .before .before .before .before .before .before .args .image)) (c .before .before .before .before .before .before .args .r) (c .before .before .before .before .before .before .pre .laid) (sym (c .before .before .before .before .texts-ok .ensures) ∙ not-false _ (c .before .before .before .if1 .left))
+returns : tie.Need-returns
+returns c =
+    let a = c .before .before .before .before .before in
+    bad-block (now (a .args .image)) (a .args .r) (a .pre .laid) (sym (c .before .block-ok .ensures) ∙ not-true _ (c .if2 .taken))
+
+texts-ok-requires : tie.Need-texts-ok-requires
+texts-ok-requires c κs = search needs
+
+-- a block was tested; another record has no range and no status
+tested : (c : tie.Joined1) → goodBlock (recordOn (now (c .before .before .before .args .image)) (c .before .before .before .args .r)) ≡ true
+tested c =
+    let a = c .before .before .before in
+    ⊎-elim (λ w. sym (w .1 .ensures) ∙ not-false _ (w .2 .left)) (λ w. named-good (now (a .args .image)) (a .args .r) (a .pre .laid) (w .left)) (c .if1 .came)
+
+returns-2 : tie.Need-returns-2
+returns-2 c =
+    let a = c .before .before .before .before in
+    c .texts-ok .ensures ∙ by-texts (now (a .args .image)) (a .args .r) (a .pre .laid) (tested (c .before))
 
 pub contents-ok-spec : {M : Type 1} → statement M
-contents-ok-spec =
-    tie.close (tie.spec texts-ok-requires returns returns-2 block-ok-requires returns-3)
+contents-ok-spec = tie.close (tie.spec block-ok-requires returns texts-ok-requires returns-2)
