@@ -13,9 +13,10 @@ use Rattle.fields.specs.Positions.{fieldAt, FieldInside}
 use Rattle.fields.specs.Heads.{head-slice, field-inside}
 use Rattle.fields.specs.declared.Field.{Field}
 use Rattle.fields.specs.declared.Field.the-variants.{Whole, Short}
-use Rattle.records.specs.Layout.{layoutOf, Judging}
-use Rattle.records.specs.declared.Judgement.{Judgement}
-use Rattle.records.specs.declared.Judgement.the-variants.{Good, Bad}
+use Rattle.records.specs.Layout.{layoutOf}
+use Rattle.record_judgement.specs.Judging.{Judging}
+use Rattle.record_judgement.specs.declared.Judgement.{Judgement}
+use Rattle.record_judgement.specs.declared.Judgement.the-variants.{Good, Bad}
 use Rattle.image.specs.Image.{startsRight}
 use Rattle.image.specs.Checking.{ReadAt}
 use Rattle.image.specs.declared.Reading.the-variants.{Taken, Refused}

@@ -1,31 +1,25 @@
 -- Defect 7 between two records: where an earlier block cannot have it with a later one, and where it does. By computing the tests of the definition.
-use mathlib.Core.Path.{_≡_, refl}
+use mathlib.Core.Path.{_≡_}
 use mathlib.Core.Bool.{Bool, true, false, _&&_}
 use Prim.Native.Nat.{_≤_, _<_}
 use borrow.Author.Tests.{le-leb, lt-leb, eq-eqb, ne-eqb}
 use native.Mathlib.Nat.{le-trans}
 use lib.Dec.{leb, eqb}
 use Rattle.registry.specs.Tags.{isBlock}
+use Rattle.octets.proofs.Connectives.{and-false}
 use Rattle.address.specs.Ranges.{overlaps, covers, crosses}
 use Rattle.records.specs.Record.{Record, rangeOf, firstOf, lastOf, crossesBlock}
 
-and-false : (b : Bool) → (b && false) ≡ false
-and-false true = refl
-and-false false = refl
+all : {a b c : Bool} → a ≡ true → b ≡ true → c ≡ true → (a && b && c) ≡ true
+all e f g = rw (e, f, g)
 
 module _ (e r : Record) where
   pub crosses-out : isBlock (r .tag) ≡ true → e .tag ≡ r .tag → firstOf e ≤ firstOf r → firstOf r ≤ lastOf r → firstOf r ≤ lastOf e → lastOf e < lastOf r
       → crossesBlock e r ≡ true
   unfolding crossesBlock crosses overlaps covers
   crosses-out b t h g k l =
-      rw (
-        b,
-        eq-eqb (e .tag) (r .tag) t,
-        le-leb (firstOf r) (lastOf e) k,
-        le-leb (firstOf e) (lastOf r) (le-trans h g),
-        le-leb (firstOf e) (firstOf r) h,
-        lt-leb (lastOf r) (lastOf e) l,
-      )
+      all b (eq-eqb (e .tag) (r .tag) t)
+      (rw (le-leb (firstOf r) (lastOf e) k, le-leb (firstOf e) (lastOf r) (le-trans h g), le-leb (firstOf e) (firstOf r) h, lt-leb (lastOf r) (lastOf e) l))
 
   pub crosses-ended : lastOf e < firstOf r → crossesBlock e r ≡ false
   unfolding crossesBlock crosses overlaps

@@ -4,7 +4,6 @@ use mathlib.Core.Bool.{Bool, true, false, false≢true}
 use mathlib.Core.List.{List}
 use Prim.Native.Nat.{ℕ, suc, _+_, _-_, _*_, _≤_}
 use native.Mathlib.Omega.{arith}
-use native.Mathlib.Nat.{le-refl}
 use lib.ListN.{length}
 use lib.Seq.{slice, slice-empty}
 use Rattle.registry.specs.Tags.{isBlock, widthOf}
@@ -38,7 +37,7 @@ module _ (s : List ℕ) (end tag at to : ℕ) (f : Stands s end tag at to) where
 module _ (s : List ℕ) (tag start end : ℕ) (r : Record) (p : start ≤ end) (q : end ≤ length s) (e : recordOf tag (slice start end s) ≡ whole r) where
   module _ (b : isBlock tag ≡ false) (middle : ℕ) (t : Texts s end start end middle) where
     is-named : recordOn s (layoutOf tag start middle end) ≡ r
-    is-named = is s tag start end p q r e middle (named-whole s tag start end q b middle t)
+    is-named = is s tag start end r e middle (named-whole s tag start end q b middle t)
 
     by-named : Laid s tag start end r
     unfolding rangeSpan handleSpan nameSpan passed
@@ -59,7 +58,7 @@ module _ (s : List ℕ) (tag start end : ℕ) (r : Record) (p : start ≤ end) (
 
   module _ (b : isBlock tag ≡ true) (middle : ℕ) (f : BlockFields s (2 * widthOf tag) start end middle) where
     is-block : recordOn s (layoutOf tag start middle end) ≡ r
-    is-block = is s tag start end p q r e middle (block-whole s tag start end q b (2 * widthOf tag) refl middle f)
+    is-block = is s tag start end r e middle (block-whole s tag start end q b (2 * widthOf tag) refl middle f)
 
     by-block : Laid s tag start end r
     unfolding rangeSpan handleSpan nameSpan passed

@@ -4,7 +4,7 @@ use mathlib.Core.List.{List, [], _∷_}
 use Prim.Native.Nat.{ℕ, _*_}
 use lib.Dec.{leb, ltb, eqb}
 use lib.ListN.{length}
-use Rattle.registry.specs.Tags.{asBlock, domain, entity, ipv4Network, ipv6Network, nameserver, isBlock, widthOf}
+use Rattle.registry.specs.Tags.{domain, entity, nameserver, isBlock, widthOf}
 use Rattle.octets.specs.Lists.{within}
 use Rattle.octets.specs.Number.{value, atMost}
 use Rattle.address.specs.Ranges.{Range, rangeFrom, wellFormed, sortsAfter, crosses}
