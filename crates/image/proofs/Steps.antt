@@ -21,7 +21,6 @@ use Rattle.records.proofs.Contents.{ranged, range-on}
 use Rattle.image.specs.Nest.{nestOf, nestIn, stepIn, openLast, BlockRoom, blockStep, recordBefore, Coming, stepOn}
 use Rattle.image.specs.declared.Nesting.{Nesting}
 use Rattle.image.specs.declared.Nesting.the-variants.{Under}
-use Rattle.image.specs.declared.Stepped.the-variants.{Fits, Bad}
 use Rattle.image.proofs.Addresses.{wide-family}
 
 module _ (p r : Record) where
@@ -63,15 +62,8 @@ module _ {b : List ℕ} {p : Layout} {s : List ℕ} {r : Layout} {o stack : List
           rw (e, lt-ltb (p .tag) (r .tag) (omega (arith, c .laid .known)))
       by-before false e = rw (e, ne-eqb (p .tag) (r .tag) n) (or-false (ltb (p .tag) (r .tag)))
 
-  pub step-up : p .tag < r .tag → Fits 0 ≡ stepOn b p s r o stack depth
-  step-up h =
-      let n : p .tag ≡ r .tag → ⊥ = λ e. omega arith in
-      by-tests true (Under 0) (order-other n ∙ lt-ltb _ _ h) (nest-other _ _ (recordOn s r) depth n)
-
-  pub step-down : r .tag < p .tag → Bad 6 ≡ stepOn b p s r o stack depth
-  step-down h =
-      let n : p .tag ≡ r .tag → ⊥ = λ e. omega arith in
-      by-tests false (Under 0) (order-other n ∙ le-ltb (p .tag) (r .tag) (omega arith)) (nest-other _ _ (recordOn s r) depth n)
+  pub step-other : (p .tag ≡ r .tag → ⊥) → stepIn (ltb (p .tag) (r .tag)) (Under 0) ≡ stepOn b p s r o stack depth
+  step-other n = by-tests _ (Under 0) (order-other n) (nest-other _ _ (recordOn s r) depth n)
 
   -- the same tag
   module _ (e : p .tag ≡ r .tag) where
