@@ -1,12 +1,12 @@
--- Serves contracts and proofs. The step: one record after the one before it and among the open blocks of its tag, the innermost last (defects 6 and 7).
+-- Serves contracts and proofs. The step: one record after the one before it and among the open blocks of its family (defects 6 and 7).
 use mathlib.Core.Bool.{Bool, true, false, cond, _&&_}
 use mathlib.Core.List.{List}
 use mathlib.Core.Path.{_≡_}
-use Prim.Native.Nat.{ℕ, zero, suc, _+_, _*_, _≤_, _<_}
-use lib.Dec.{leb, eqb}
-use lib.ListN.{length, getD}
+use Prim.Native.Nat.{ℕ, _+_, _*_, _≤_, _<_}
+use lib.Dec.{eqb}
+use lib.ListN.{length}
 use Rattle.registry.specs.Tags.{isBlock, widthOf, asBlock}
-use Rattle.address.specs.Ranges.{Range, sortsAfter}
+use Rattle.address.specs.Ranges.{sortsAfter}
 use Rattle.octets.specs.Positions.{Wide}
 use Rattle.address.specs.Positions.{rangeIn}
 use Rattle.records.specs.Record.{Record, rangeOf}
@@ -14,15 +14,11 @@ use Rattle.records.specs.Judge.{inOrder}
 use Rattle.records.specs.Positions.{previousOf}
 use Rattle.records.specs.Layout.{partsOf, recordOn, LaidOut}
 use Rattle.records.specs.declared.Layout.{Layout}
-use Rattle.image.specs.declared.Nesting.{Nesting}
-use Rattle.image.specs.declared.Nesting.the-variants.{Under, Crossing}
-use Rattle.image.specs.declared.Stepped.{Stepped}
-use Rattle.image.specs.declared.Stepped.the-variants.{Fits, Bad}
-
--- A range goes under the innermost open block that does not end before it, and has to lie inside it. `lasts d` is the last address of open block d.
-abbrev pub nestOf : (ℕ → ℕ) → Range → ℕ → Nesting
-nestOf lasts r zero = Under 0
-nestOf lasts r (suc d) = cond (leb (r .first) (lasts d)) (cond (leb (r .last) (lasts d)) (Under (suc d)) Crossing) (nestOf lasts r d)
+use Rattle.nesting.specs.declared.Nesting.{Nesting}
+use Rattle.nesting.specs.declared.Nesting.the-variants.{Under, Crossing}
+use Rattle.nesting.specs.Nest.{nestOf, Opened, openLast}
+use Rattle.placing.specs.declared.Stepped.{Stepped}
+use Rattle.placing.specs.declared.Stepped.the-variants.{Fits, Bad}
 
 -- a record after one of the tag `before`: only a block after a block of its tag is nested
 abbrev pub nestIn : (ℕ → ℕ) → ℕ → Record → ℕ → Nesting
@@ -36,14 +32,6 @@ stepIn true Crossing = Bad 7
 
 -- In positions. The record before, which has the tag 0 if there is none, lies in `b`, the record in `s`; the ranges of the open blocks start at the
 -- first `depth` positions of `stack` in `o`
-
--- all these ranges lie there
-abbrev pub Opened : List ℕ → ℕ → List ℕ → ℕ → Type 0
-Opened o width stack depth = (d : ℕ) → d < depth → getD stack d 0 + 2 * width ≤ length o
-
--- the last address of open block d
-abbrev pub openLast : List ℕ → ℕ → List ℕ → ℕ → ℕ
-openLast o width stack d = rangeIn o (getD stack d 0) width .last
 
 -- a block whose range starts at `start`, after one of its tag, whose range is that of `b` at `from`
 pub record BlockRoom (b : List ℕ) (from : ℕ) (s : List ℕ) (start width : ℕ) (o stack : List ℕ) (depth : ℕ) : Type 0 where

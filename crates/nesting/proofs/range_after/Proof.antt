@@ -3,10 +3,10 @@ use mathlib.Core.Path.{sym, _∙_}
 use borrow.Author.Tests.{not-true, not-false}
 use denote.Ref.{now}
 use Rattle.address.specs.Positions.{rangeIn}
-use Rattle.image.proofs.Addresses.{after-first, before-first, same-first}
+use Rattle.nesting.proofs.Families.{after-first, before-first, same-first}
 use borrow.Author.Needs.{needs}
-use Rattle.image.proofs.range_after.Statement.{statement}
-use Rattle.image.proofs.range_after.Tie as tie
+use Rattle.nesting.proofs.range_after.Statement.{statement}
+use Rattle.nesting.proofs.range_after.Tie as tie
 
 numbers-at-most-requires : tie.Need-numbers-at-most-requires
 numbers-at-most-requires c κs = search needs

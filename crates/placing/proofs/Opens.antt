@@ -11,41 +11,16 @@ use lib.Dec.{leb, eqb}
 use lib.ListN.{length, getD, set}
 use lib.Seq.{getD-set-same, getD-set-other}
 use Rattle.registry.specs.Tags.{isBlock}
-use Rattle.address.specs.Ranges.{Range}
 use Rattle.records.specs.Record.{Record, rangeOf, firstOf, lastOf}
 use Rattle.records.specs.Judge.{crossesAny}
 use Rattle.records.proofs.Shapes.{a-block, no-block}
 use Rattle.records.proofs.Accepted.{After}
 use Rattle.records.proofs.Crossing.{crosses-ended, crosses-around, crosses-other, crosses-no-block, crosses-out}
-use Rattle.image.specs.Nest.{nestOf, nestIn}
-use Rattle.image.specs.declared.Nesting.{Nesting}
-use Rattle.image.specs.declared.Nesting.the-variants.{Under, Crossing}
-use Rattle.image.proofs.Addresses.{low-family}
-
--- The search of the code goes down from the innermost
-
-module _ (lasts : ℕ → ℕ) (r : Range) (depth d : ℕ) (m : nestOf lasts r d ≡ nestOf lasts r depth) where
-  pub nest-none : d ≤ 0 → Under 0 ≡ nestOf lasts r depth
-  nest-none h =
-      let e : d ≡ 0 = omega arith in
-      rw e at m
-
-  module _ (h : 0 < d) where
-    unfolded : cond (leb (r .first) (lasts (d - 1))) (cond (leb (r .last) (lasts (d - 1))) (Under d) Crossing) (nestOf lasts r (d - 1)) ≡ nestOf lasts r depth
-    unfolded =
-        let e : suc (d - 1) ≡ d = omega arith in
-        ap (λ (n : ℕ). cond (leb (r .first) (lasts (d - 1))) (cond (leb (r .last) (lasts (d - 1))) (Under n) Crossing) (nestOf lasts r (d - 1))) (sym e)
-        ∙ ap (nestOf lasts r) e ∙ m
-
-    pub nest-on : leb (r .first) (lasts (d - 1)) ≡ false → nestOf lasts r (d - 1) ≡ nestOf lasts r depth
-    nest-on e = rw e at unfolded
-
-    module _ (e : leb (r .first) (lasts (d - 1)) ≡ true) where
-      pub nest-under : leb (r .last) (lasts (d - 1)) ≡ true → Under d ≡ nestOf lasts r depth
-      nest-under f = rw (e, f) at unfolded
-
-      pub nest-out : leb (r .last) (lasts (d - 1)) ≡ false → Crossing ≡ nestOf lasts r depth
-      nest-out f = rw (e, f) at unfolded
+use Rattle.nesting.specs.Nest.{nestOf}
+use Rattle.placing.specs.Step.{nestIn}
+use Rattle.nesting.specs.declared.Nesting.{Nesting}
+use Rattle.nesting.specs.declared.Nesting.the-variants.{Under, Crossing}
+use Rattle.nesting.proofs.Families.{low-family}
 
 -- all end at l or after it
 abbrev pub Above : ℕ → List Record → Type 0

@@ -4,9 +4,9 @@ use borrow.Author.Tests.{eq-eqb, ne-eqb}
 use borrow.Author.Needs.{needs}
 use native.Mathlib.Omega.{arith}
 use Rattle.registry.specs.Tags.{widthOf}
-use Rattle.image.proofs.Steps.{before, step-other, step-named, block-room, step-block}
-use Rattle.image.proofs.step.Statement.{statement}
-use Rattle.image.proofs.step.Tie as tie
+use Rattle.placing.proofs.Steps.{before, step-other, step-named, block-room, step-block}
+use Rattle.placing.proofs.step.Statement.{statement}
+use Rattle.placing.proofs.step.Tie as tie
 
 abbrev start : tie.After-shared-slice-known4 → tie.Start
 start c = c .before .before .before .before

@@ -1,4 +1,4 @@
--- The loop: the open blocks above d have ended, so the search goes on among the first d (Opens.antt).
+-- The loop: the open blocks above d have ended, so the search goes on among the first d (Search.antt).
 use mathlib.Core.Path.{_≡_, refl, sym, _∙_}
 use Prim.Native.Nat.{ℕ, _+_, _-_, _*_, _≤_}
 use lib.ListN.{length, getD}
@@ -6,11 +6,11 @@ use native.Mathlib.Omega.{arith}
 use denote.Ref.{now}
 use Rattle.address.specs.Ranges.{Range}
 use Rattle.address.specs.Positions.{rangeIn}
-use Rattle.image.specs.Nest.{nestOf, openLast}
-use Rattle.image.proofs.Opens.{nest-none, nest-on, nest-under, nest-out}
+use Rattle.nesting.specs.Nest.{nestOf, openLast}
+use Rattle.nesting.proofs.Search.{nest-none, nest-on, nest-under, nest-out}
 use borrow.Author.Needs.{needs}
-use Rattle.image.proofs.nest.Statement.{statement}
-use Rattle.image.proofs.nest.Tie as tie
+use Rattle.nesting.proofs.nest.Statement.{statement}
+use Rattle.nesting.proofs.nest.Tie as tie
 
 abbrev Inv-loop : tie.InvT-loop
 Inv-loop image start width opens stack depth d₀ d =

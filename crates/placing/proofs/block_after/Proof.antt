@@ -1,10 +1,10 @@
 -- The sorting first, then the open blocks.
 use mathlib.Core.Path.{sym, _∙_, ap₂}
 use borrow.Author.Tests.{not-true, not-false}
-use Rattle.image.specs.Nest.{stepIn}
+use Rattle.placing.specs.Step.{stepIn}
 use borrow.Author.Needs.{needs}
-use Rattle.image.proofs.block_after.Statement.{statement}
-use Rattle.image.proofs.block_after.Tie as tie
+use Rattle.placing.proofs.block_after.Statement.{statement}
+use Rattle.placing.proofs.block_after.Tie as tie
 
 range-after-requires : tie.Need-range-after-requires
 range-after-requires c κs = search needs

@@ -18,10 +18,11 @@ use Rattle.records.specs.Layout.{recordOn, LaidOut}
 use Rattle.records.specs.declared.Layout.{Layout}
 use Rattle.records.proofs.Shapes.{a-block, no-block}
 use Rattle.records.proofs.Contents.{ranged, range-on}
-use Rattle.image.specs.Nest.{nestOf, nestIn, stepIn, openLast, BlockRoom, blockStep, recordBefore, Coming, stepOn}
-use Rattle.image.specs.declared.Nesting.{Nesting}
-use Rattle.image.specs.declared.Nesting.the-variants.{Under}
-use Rattle.image.proofs.Addresses.{wide-family}
+use Rattle.nesting.specs.Nest.{nestOf, openLast}
+use Rattle.placing.specs.Step.{nestIn, stepIn, BlockRoom, blockStep, recordBefore, Coming, stepOn}
+use Rattle.nesting.specs.declared.Nesting.{Nesting}
+use Rattle.nesting.specs.declared.Nesting.the-variants.{Under}
+use Rattle.nesting.proofs.Families.{wide-family}
 
 module _ (p r : Record) where
   sorted-block : isBlock (r .tag) ≡ true → (a b : Range) → rangeOf p ≡ a → rangeOf r ≡ b → sortedAfter p r ≡ sortsAfter a b

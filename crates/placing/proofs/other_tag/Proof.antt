@@ -1,7 +1,7 @@
 -- By the order of the tags.
 use borrow.Author.Tests.{lt-ltb, le-ltb}
-use Rattle.image.proofs.other_tag.Statement.{statement}
-use Rattle.image.proofs.other_tag.Tie as tie
+use Rattle.placing.proofs.other_tag.Statement.{statement}
+use Rattle.placing.proofs.other_tag.Tie as tie
 
 returns : tie.Need-returns
 returns c = rw (lt-ltb _ _ (c .if1 .taken))
