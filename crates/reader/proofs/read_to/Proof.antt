@@ -1,4 +1,4 @@
--- `fields::read_to` meets its contract: a walk of its MIR, by hand, as that of `field_after`; `to` is called on the `Reader` that `new` returns.
+-- `reader::read_to` meets its contract: a walk of its MIR, by hand, as that of `field_after`; `to` is called on the `Reader` that `new` returns.
 -- Assumes nothing.
 use mathlib.Core.Path.{_≡_, refl, ap, _∙_}
 use Prim.Native.Nat.{ℕ, _<_, _^_}
@@ -37,25 +37,25 @@ use denote.Triple.Table.{entered, cited}
 use denote.Triple.Walked.{says, Stays, stay-none, stay-none-slice, walkOf, goes-none, goes-none-slice, Walks, ends-at, walked, walk-meets}
 use denote.Exit.{yes}
 use denote.Triple.Clauses.{ensured, lasts}
 use Rattle.fields.specs.Positions.{fieldAt, endBetween}
-use Rattle.fields.specs.declared.Reader.{Reader}
+use Rattle.reader.specs.declared.Reader.{Reader}
 use Rattle.fields.specs.declared.End.{End}
-use Rattle.fields.proofs.Reader as T
-use Rattle.fields.proofs.Reader.Laws as T′
+use Rattle.reader.proofs.Reader as T
+use Rattle.reader.proofs.Reader.Laws as T′
 use Rattle.fields.proofs.End as S
 use Rattle.fields.proofs.End.Laws as S′
-use Rattle.fields.proofs.Reader.new as new
-use Rattle.fields.proofs.Reader.new.Symbol as new-def
-use Rattle.fields.proofs.Reader.new.Symbol.{name as #fields·new}
-use Rattle.fields.proofs.Reader.new.Met as new-thm
-use Rattle.fields.proofs.Reader.to as sought
-use Rattle.fields.proofs.Reader.to.Symbol as to-def
-use Rattle.fields.proofs.Reader.to.Symbol.{name as #fields·to}
-use Rattle.fields.proofs.Reader.to.Met as to-thm
-use Rattle.fields.proofs.read_to.Key.{name as #fields·read-to}
-use Rattle.fields.proofs.read_to as reading
-use Rattle.fields.proofs.read_to.Statement as stated
-use Rattle.fields.proofs.read_to.Code as code
+use Rattle.reader.proofs.Reader.new as new
+use Rattle.reader.proofs.Reader.new.Symbol as new-def
+use Rattle.reader.proofs.Reader.new.Symbol.{name as #reader·new}
+use Rattle.reader.proofs.Reader.new.Met as new-thm
+use Rattle.reader.proofs.Reader.to as sought
+use Rattle.reader.proofs.Reader.to.Symbol as to-def
+use Rattle.reader.proofs.Reader.to.Symbol.{name as #reader·to}
+use Rattle.reader.proofs.Reader.to.Met as to-thm
+use Rattle.reader.proofs.read_to.Key.{name as #reader·read-to}
+use Rattle.reader.proofs.read_to as reading
+use Rattle.reader.proofs.read_to.Statement as stated
+use Rattle.reader.proofs.read_to.Code as code
 
 -- the struct's type, over the signature's lifetimes
 abbrev B : Lfts 1 → RattleType
@@ -134,7 +134,7 @@ module _ {M : Type 1} (𝓤 : URA M) (H : Heap 𝓤) (A : Atoms 𝓤) (W : Given
       suffices ! _ (ends-at 𝓤 H A reading.ended stayed (reading.clauses 𝓤 H A mem run) W (((κ, tt), (q, tt), tt, (s, (n, (tag, (low, (high, tt))))), at), tt) u t (tt, (tt, (tt, (tt, (tt, tt))))) (tt, (tt, (tt, (tt, (tt, tt)))))) $ says ! e $
       move ! (1 ∷ []) $ frame ! $ nothing ! $ owned ! u8 (Is u8) (uint-makes 𝓤 H A W w8) high _ (refl, high-fits) $ fjoin ! $ owned ! u8 (Is u8) (uint-makes 𝓤 H A W w8) low _ (refl, low-fits) $ fjoin ! $ owned ! u8 (Is u8) (uint-makes 𝓤 H A W w8) tag _ (refl, tag-fits) $ fjoin ! $ owned ! usize (Is usize) (uint-makes 𝓤 H A W w64) n _ (refl, ok) $ fjoin ! $ move ! (2 ∷ 0 ∷ []) $ fjoin ! $ frame ! $ done !
 
-  module _ (C : Calls 𝓤 H) (Λ : Loops 𝓤 H) (fm : FmC 𝓤 H (W .laws) C) (known-new : Triple 𝓤 (C #fields·new) (New 𝓤 H A mem run)) (known-to : Triple 𝓤 (C #fields·to) (To 𝓤 H A mem run)) where
+  module _ (C : Calls 𝓤 H) (Λ : Loops 𝓤 H) (fm : FmC 𝓤 H (W .laws) C) (known-new : Triple 𝓤 (C #reader·new) (New 𝓤 H A mem run)) (known-to : Triple 𝓤 (C #reader·to) (To 𝓤 H A mem run)) where
     walk : Is (ShrSlice (named 0) κ u8) s (v ∷ []) → ent 𝓤 (onEntry 𝓤 H A reading.signature (κ, tt) (q, tt) (s, (n, (tag, (low, (high, tt))))) at) (WpFn 𝓤 H C Λ code.function (v ∷ vint w64 n ∷ vint w8 tag ∷ vint w8 low ∷ vint w8 high ∷ []) Post)
     walk p =
         qed W (raw (onEntry 𝓤 H A reading.signature (κ, tt) (q, tt) (s, (n, (tag, (low, (high, tt))))) at) ∷ []) ∵ enter ! C Λ code.function (v ∷ vint w64 n ∷ vint w8 tag ∷ vint w8 low ∷ vint w8 high ∷ []) _ $
@@ -161,13 +161,13 @@ module _ {M : Type 1} (𝓤 : URA M) (H : Heap 𝓤) (A : Atoms 𝓤) (W : Given
         by ! (exits t u′ (g ∙ (ap (λ (x : RefT (List ℕ)). foundAt x (r .at)) (e .0) ∙ ap (foundAt s) (e .1)))))))))))))))))))
 
 module _ {M : Type 1} (𝓤 : URA M) (H : Heap 𝓤) (A : Atoms 𝓤) (W : Given 𝓤 H A) (mem : Memory → SProp 𝓤) (run : Routine → Fun 𝓤) where
-  reading-walks : (C : Calls 𝓤 H) (Λ : Loops 𝓤 H) → FmC 𝓤 H (W .laws) C → Triple 𝓤 (C #fields·new) (New 𝓤 H A mem run) → Triple 𝓤 (C #fields·to) (To 𝓤 H A mem run)
+  reading-walks : (C : Calls 𝓤 H) (Λ : Loops 𝓤 H) → FmC 𝓤 H (W .laws) C → Triple 𝓤 (C #reader·new) (New 𝓤 H A mem run) → Triple 𝓤 (C #reader·to) (To 𝓤 H A mem run)
       → Walks 𝓤 H A reading.ended stayed (WpFn 𝓤 H C Λ code.function) (reading.clauses 𝓤 H A mem run)
   reading-walks C Λ fm known-new known-to = walked 𝓤 H A reading.ended stayed (reading.clauses 𝓤 H A mem run) (WpFn 𝓤 H C Λ code.function) (λ κs. (slice-vals, (uint-vals w64, (uint-vals w8, (uint-vals w8, (uint-vals w8, tt)))))) (λ κs. (shr-slice-tells (named 0) (κs .0) u8, (uint-tells w64, (uint-tells w8, (uint-tells w8, (uint-tells w8, tt))))))
       (λ κs qs bounds a g are. via 𝓤 _ (fst∗ 𝓤 _ (emp 𝓤)) (walk 𝓤 H A W mem run (κs .0) (qs .0) (a .0) (a .1 .0) (are .1 .0 .1) (a .1 .1 .0) (are .1 .1 .0 .1) (a .1 .1 .1 .0) (are .1 .1 .1 .0 .1) (a .1 .1 .1 .1 .0) (are .1 .1 .1 .1 .0 .1) C Λ fm known-new known-to (are .0)))
 
 reading-meets : {M : Type 1} (𝓤 : URA M) (H : Heap 𝓤) (A : Atoms 𝓤) (W : Given 𝓤 H A) (mem : Memory → SProp 𝓤) (run : Routine → Fun 𝓤) (𝓣 : Tables 𝓤 H)
-    → Triple 𝓤 (𝓣 .C #fields·new) (New 𝓤 H A mem run) → Triple 𝓤 (𝓣 .C #fields·to) (To 𝓤 H A mem run)
+    → Triple 𝓤 (𝓣 .C #reader·new) (New 𝓤 H A mem run) → Triple 𝓤 (𝓣 .C #reader·to) (To 𝓤 H A mem run)
     → Meets 𝓤 H A reading.signature (WpFn 𝓤 H (𝓣 .C) (𝓣 .Λ) code.function) (reading.spec 𝓤 H A mem run)
 reading-meets 𝓤 H A W mem run 𝓣 known-new known-to = walk-meets 𝓤 H A reading.ended stayed W (goes-none-slice 𝓤 H A W 1 (0 ∷ []) tt (plain (λ _. u8)) yes, (goes-none 𝓤 H A W 1 (λ _. usize) yes (λ κs x f. refl), (goes-none 𝓤 H A W 1 (λ _. u8) yes (λ κs x f. refl), (goes-none 𝓤 H A W 1 (λ _. u8) yes (λ κs x f. refl), (goes-none 𝓤 H A W 1 (λ _. u8) yes (λ κs x f. refl), tt))))) (reading.clauses 𝓤 H A mem run) (WpFn 𝓤 H (𝓣 .C) (𝓣 .Λ) code.function) (WpFn-mono 𝓤 H (W .laws) 𝓣 code.function)
     (reading-walks 𝓤 H A W mem run (𝓣 .C) (𝓣 .Λ) (fmOf 𝓤 H (W .laws) 𝓣) known-new known-to)
@@ -176,7 +176,7 @@ pub read-to-spec : {M : Type 1} → stated.statement M
 unfolding code.routine tablesOf
 read-to-spec 𝓤 H 𝓜 𝓖 𝓡 =
     entered 𝓤 H (tripleOf 𝓤 H (𝓖 .A) reading.signature (reading.spec 𝓤 H (𝓖 .A) (𝓜 .mem) (𝓡 .run)))
-    (tables 𝓤 H 𝓜 𝓡 code.env .C) (tables 𝓤 H 𝓜 𝓡 code.env .Λ) #fields·read-to code.function (code.unfolded 𝓤 H 𝓜 𝓡)
+    (tables 𝓤 H 𝓜 𝓡 code.env .C) (tables 𝓤 H 𝓜 𝓡 code.env .Λ) #reader·read-to code.function (code.unfolded 𝓤 H 𝓜 𝓡)
     (reading-meets 𝓤 H (𝓖 .A) (givenOf 𝓤 H 𝓜 𝓖) (𝓜 .mem) (𝓡 .run) (tablesOf 𝓤 H 𝓜 (tables 𝓤 H 𝓜 𝓡 code.env))
-    (cited 𝓤 H (New 𝓤 H (𝓖 .A) (𝓜 .mem) (𝓡 .run)) 𝓜 𝓡 code.env #fields·new new-def.routine code.calls-fields·Reader·new (new-thm.met 𝓤 H 𝓜 𝓖 𝓡))
-    (cited 𝓤 H (To 𝓤 H (𝓖 .A) (𝓜 .mem) (𝓡 .run)) 𝓜 𝓡 code.env #fields·to to-def.routine code.calls-fields·Reader·to (to-thm.met 𝓤 H 𝓜 𝓖 𝓡)))
+    (cited 𝓤 H (New 𝓤 H (𝓖 .A) (𝓜 .mem) (𝓡 .run)) 𝓜 𝓡 code.env #reader·new new-def.routine code.calls-reader·Reader·new (new-thm.met 𝓤 H 𝓜 𝓖 𝓡))
+    (cited 𝓤 H (To 𝓤 H (𝓖 .A) (𝓜 .mem) (𝓡 .run)) 𝓜 𝓡 code.env #reader·to to-def.routine code.calls-reader·Reader·to (to-thm.met 𝓤 H 𝓜 𝓖 𝓡)))

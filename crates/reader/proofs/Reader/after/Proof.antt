@@ -1,4 +1,4 @@
--- `fields::after` meets its contract: a walk of its MIR, by hand. The struct is taken apart, and `step_after` is called on the slice and the numbers. All that the proof knows of `step_after` is that it meets its contract.
+-- `reader::after` meets its contract: a walk of its MIR, by hand. The struct is taken apart, and `step_after` is called on the slice and the numbers. All that the proof knows of `step_after` is that it meets its contract.
 -- The struct is Copy: what it owns is had twice, one copy is kept whole for the exit, and of the other what image owns goes to the callee, beside the lifetime's token, which comes back.
 -- Assumes nothing.
 use mathlib.Core.Path.{_≡_, refl}
@@ -43,21 +43,21 @@ use denote.Triple.Table.{entered, cited}
 use denote.Triple.Walked.{says, Stays, stay-none, walkOf, goes-none, Walks, ends-at, walked, walk-meets}
 use denote.Exit.{yes}
 use denote.Triple.Clauses.{ensured, lasts}
 use Rattle.fields.specs.Positions.{fieldAfter}
-use Rattle.fields.specs.declared.Reader.{Reader}
+use Rattle.reader.specs.declared.Reader.{Reader}
 use Rattle.fields.specs.declared.Field.{Field}
-use Rattle.fields.proofs.Reader as T
-use Rattle.fields.proofs.Reader.Laws as T′
+use Rattle.reader.proofs.Reader as T
+use Rattle.reader.proofs.Reader.Laws as T′
 use Rattle.fields.proofs.Field as S
 use Rattle.fields.proofs.Field.Laws as S′
 use Rattle.fields.proofs.step_after as step
 use Rattle.fields.proofs.step_after.Symbol as step-def
 use Rattle.fields.proofs.step_after.Symbol.{name as #fields·step-after}
 use Rattle.fields.proofs.step_after.Met as step-thm
-use Rattle.fields.proofs.Reader.after.Key.{name as #fields·after}
-use Rattle.fields.proofs.Reader.after as sought
-use Rattle.fields.proofs.Reader.after.Statement as stated
-use Rattle.fields.proofs.Reader.after.Code as code
+use Rattle.reader.proofs.Reader.after.Key.{name as #reader·after}
+use Rattle.reader.proofs.Reader.after as sought
+use Rattle.reader.proofs.Reader.after.Statement as stated
+use Rattle.reader.proofs.Reader.after.Code as code
 
 -- the struct's type, over the signature's lifetimes
 abbrev B : Lfts 1 → RattleType
@@ -165,6 +165,6 @@ pub after-spec : {M : Type 1} → stated.statement M
 unfolding code.routine tablesOf
 after-spec 𝓤 H 𝓜 𝓖 𝓡 =
     entered 𝓤 H (tripleOf 𝓤 H (𝓖 .A) sought.signature (sought.spec 𝓤 H (𝓖 .A) (𝓜 .mem) (𝓡 .run)))
-    (tables 𝓤 H 𝓜 𝓡 code.env .C) (tables 𝓤 H 𝓜 𝓡 code.env .Λ) #fields·after code.function (code.unfolded 𝓤 H 𝓜 𝓡)
+    (tables 𝓤 H 𝓜 𝓡 code.env .C) (tables 𝓤 H 𝓜 𝓡 code.env .Λ) #reader·after code.function (code.unfolded 𝓤 H 𝓜 𝓡)
     (after-meets 𝓤 H (𝓖 .A) (givenOf 𝓤 H 𝓜 𝓖) (𝓜 .mem) (𝓡 .run) (tablesOf 𝓤 H 𝓜 (tables 𝓤 H 𝓜 𝓡 code.env))
     (cited 𝓤 H (StepAfter 𝓤 H (𝓖 .A) (𝓜 .mem) (𝓡 .run)) 𝓜 𝓡 code.env #fields·step-after step-def.routine code.calls-fields·step-after (step-thm.met 𝓤 H 𝓜 𝓖 𝓡)))

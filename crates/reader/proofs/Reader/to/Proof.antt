@@ -1,4 +1,4 @@
--- `fields::to` meets its contract: a walk of its MIR, by hand, as that of `after`; `step_to` is called on the slice, the number and the three bytes.
+-- `reader::to` meets its contract: a walk of its MIR, by hand, as that of `after`; `step_to` is called on the slice, the number and the three bytes.
 -- Assumes nothing.
 use mathlib.Core.Path.{_≡_, refl}
 use Prim.Native.Nat.{ℕ, _<_, _^_}
@@ -42,21 +42,21 @@ use denote.Triple.Table.{entered, cited}
 use denote.Triple.Walked.{says, Stays, stay-none, walkOf, goes-none, Walks, ends-at, walked, walk-meets}
 use denote.Exit.{yes}
 use denote.Triple.Clauses.{ensured, lasts}
 use Rattle.fields.specs.Positions.{fieldAt, endBetween}
-use Rattle.fields.specs.declared.Reader.{Reader}
+use Rattle.reader.specs.declared.Reader.{Reader}
 use Rattle.fields.specs.declared.End.{End}
-use Rattle.fields.proofs.Reader as T
-use Rattle.fields.proofs.Reader.Laws as T′
+use Rattle.reader.proofs.Reader as T
+use Rattle.reader.proofs.Reader.Laws as T′
 use Rattle.fields.proofs.End as S
 use Rattle.fields.proofs.End.Laws as S′
 use Rattle.fields.proofs.step_to as step
 use Rattle.fields.proofs.step_to.Symbol as step-def
 use Rattle.fields.proofs.step_to.Symbol.{name as #fields·step-to}
 use Rattle.fields.proofs.step_to.Met as step-thm
-use Rattle.fields.proofs.Reader.to.Key.{name as #fields·to}
-use Rattle.fields.proofs.Reader.to as sought
-use Rattle.fields.proofs.Reader.to.Statement as stated
-use Rattle.fields.proofs.Reader.to.Code as code
+use Rattle.reader.proofs.Reader.to.Key.{name as #reader·to}
+use Rattle.reader.proofs.Reader.to as sought
+use Rattle.reader.proofs.Reader.to.Statement as stated
+use Rattle.reader.proofs.Reader.to.Code as code
 
 -- the struct's type, over the signature's lifetimes
 abbrev B : Lfts 1 → RattleType
@@ -165,6 +165,6 @@ pub to-spec : {M : Type 1} → stated.statement M
 unfolding code.routine tablesOf
 to-spec 𝓤 H 𝓜 𝓖 𝓡 =
     entered 𝓤 H (tripleOf 𝓤 H (𝓖 .A) sought.signature (sought.spec 𝓤 H (𝓖 .A) (𝓜 .mem) (𝓡 .run)))
-    (tables 𝓤 H 𝓜 𝓡 code.env .C) (tables 𝓤 H 𝓜 𝓡 code.env .Λ) #fields·to code.function (code.unfolded 𝓤 H 𝓜 𝓡)
+    (tables 𝓤 H 𝓜 𝓡 code.env .C) (tables 𝓤 H 𝓜 𝓡 code.env .Λ) #reader·to code.function (code.unfolded 𝓤 H 𝓜 𝓡)
     (to-meets 𝓤 H (𝓖 .A) (givenOf 𝓤 H 𝓜 𝓖) (𝓜 .mem) (𝓡 .run) (tablesOf 𝓤 H 𝓜 (tables 𝓤 H 𝓜 𝓡 code.env))
     (cited 𝓤 H (StepTo 𝓤 H (𝓖 .A) (𝓜 .mem) (𝓡 .run)) 𝓜 𝓡 code.env #fields·step-to step-def.routine code.calls-fields·step-to (step-thm.met 𝓤 H 𝓜 𝓖 𝓡)))

@@ -1,8 +1,8 @@
 -- The field no field on is the field at the position.
 use borrow.Author.Needs.{needs}
 use Rattle.fields.specs.Positions.{passed}
-use Rattle.fields.proofs.read.Statement.{statement}
-use Rattle.fields.proofs.read.Tie as tie
+use Rattle.reader.proofs.read.Statement.{statement}
+use Rattle.reader.proofs.read.Tie as tie
 
 field-after-requires : tie.Need-field-after-requires
 field-after-requires c κs = search needs
