@@ -9,7 +9,7 @@ use lib.Dec.{T}
 use lib.ListN.{length, drop, getD, drop-of-length-le}
 use lib.Seq.{drop-cons}
 use Rattle.registry.specs.Tags.{widthOf}
-use Rattle.image.proofs.Addresses.{wide-family}
+use Rattle.nesting.proofs.Families.{wide-family}
 use Rattle.forest.specs.Blocks.{Block}
 use Rattle.forest.specs.Relations.{select}
 use Rattle.forest.proofs.Select.{select-kept, select-dropped}

@@ -21,18 +21,19 @@ use Rattle.records.specs.declared.Layout.{Layout}
 use Rattle.records.proofs.Accepted.{first-last, After, follows-after}
 use Rattle.image.specs.Image.{Image, sound, defective, stopped, taken, afterJudged, nextOf, afterNext, imageFrom, startsRight}
 use Rattle.image.specs.Checking.{TakenAt, ReadAt, verdictOf}
-use Rattle.image.specs.Nest.{nestIn, stepIn, Opened, openLast, recordBefore, Coming, stepOn}
+use Rattle.nesting.specs.Nest.{Opened, openLast}
+use Rattle.placing.specs.Step.{nestIn, stepIn, recordBefore, Coming, stepOn}
 use Rattle.image.specs.declared.Reading.{Reading}
 use Rattle.image.specs.declared.Reading.the-variants.{Taken, Refused}
-use Rattle.image.specs.declared.Nesting.{Nesting}
-use Rattle.image.specs.declared.Nesting.the-variants.{Under, Crossing}
-use Rattle.image.specs.declared.Stepped.{Stepped}
-use Rattle.image.specs.declared.Stepped.the-variants.{Fits, Bad}
+use Rattle.nesting.specs.declared.Nesting.{Nesting}
+use Rattle.nesting.specs.declared.Nesting.the-variants.{Under, Crossing}
+use Rattle.placing.specs.declared.Stepped.{Stepped}
+use Rattle.placing.specs.declared.Stepped.the-variants.{Fits, Bad}
 use Rattle.image.specs.declared.Verdict.the-variants.{Sound, Defective}
 use Rattle.image.proofs.Readings.{read-head}
 use Rattle.records.proofs.Judging.{judged-read}
 use Rattle.records.proofs.Contents.{ranged, range-on}
-use Rattle.image.proofs.Opens.{Open, open-none, Goes, Nested, nests, pushed}
+use Rattle.placing.proofs.Opens.{Open, open-none, Goes, Nested, nests, pushed}
 
 -- After `count` records, the last of which lies as `p` says, or has the tag 0 if there is none: what is left of the image decides on the whole,
 -- and the stack holds the open blocks.

@@ -1,7 +1,6 @@
 pub mod Image
 pub mod Part
 pub mod Checking
-pub mod Nest
 pub mod Entries
 pub mod Example
 pub mod Computing

@@ -11,7 +11,7 @@ ghost use Rattle.changes.specs.Rank.{rankOf};
 ghost use Rattle.merged.specs.Held.{fieldBytes, bytesAt, parsedFrom, entriesAt, Recorded, Held, bareKey, Key};
 use fields::Field;
 use fields::step_at;
-use image::range_after;
+use nesting::range_after;
 use records::handle_span;
 use records::name_span;
 use registry::AS_BLOCK;

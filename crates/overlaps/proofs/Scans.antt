@@ -11,10 +11,10 @@ use Rattle.records.specs.Record.{Record, firstOf, follows}
 use Rattle.records.specs.Judge.{bad, good, inOrder, crossesAny, judge}
 use Rattle.records.proofs.Accepted.{After, follows-after}
 use Rattle.image.specs.Image.{defective, afterJudged, afterNext, imageFrom}
-use Rattle.image.specs.Nest.{nestIn}
-use Rattle.image.specs.declared.Nesting.{Nesting}
-use Rattle.image.specs.declared.Nesting.the-variants.{Under, Crossing}
-use Rattle.image.proofs.Opens.{Open, open-none, Goes, Nested, nests, pushed}
+use Rattle.placing.specs.Step.{nestIn}
+use Rattle.nesting.specs.declared.Nesting.{Nesting}
+use Rattle.nesting.specs.declared.Nesting.the-variants.{Under, Crossing}
+use Rattle.placing.proofs.Opens.{Open, open-none, Goes, Nested, nests, pushed}
 use Rattle.rows.specs.Entry.{Entry, parsedOf, rowOf}
 use Rattle.rows.specs.Ordered.{AllAfter, after-cons, Ordered, ordered-cons}
 use Rattle.records.proofs.Judging.{judged-after}

@@ -15,7 +15,7 @@ use Rattle.image.specs.Image.{imageOf}
 use Rattle.image.specs.Part.{recordsOf}
 use Rattle.image.specs.Index.{tagOf, Standing}
 use Rattle.registry.specs.declared.Part.the-variants.{Range}
-use Rattle.image.proofs.Addresses.{wide-family}
+use Rattle.nesting.proofs.Families.{wide-family}
 use Rattle.entries.proofs.Standing.{standing, range-length}
 use Rattle.forest.proofs.Families.{BlockRecord, block-record}
 use Rattle.prefixes.specs.Call.{ipRangeOf}

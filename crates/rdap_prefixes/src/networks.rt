@@ -29,7 +29,7 @@ pub fn is_listed(image: &[u8], start: u32, all: bool) -> bool {
     if all {
         return true;
     }
-    let Field::Whole { tag: _, start, end } = fields::read(image, start as usize) else {
+    let Field::Whole { tag: _, start, end } = reader::read(image, start as usize) else {
         return false;
     };
     let contents = part(image, start, end);

@@ -8,7 +8,7 @@ ghost use Rattle.registry.specs.Tags.{entity, ipv4Network};
 ghost use Rattle.records.specs.Record.{isWhole, recordOf};
 ghost use Rattle.record_defect.specs.Past.{endPast};
 use fields::Field;
-use fields::read;
+use reader::read;
 use registry::AS_BLOCK;
 use registry::HEAD;
 use registry::width_of;

@@ -6,7 +6,7 @@ ghost use Rattle.registry.specs.Tags.{widthOf, asBlock, entity, ipv4Network};
 ghost use Rattle.fields.specs.Positions.{fieldAt, endBetween};
 ghost use Rattle.record_shape.specs.Shaped.{Shaped};
 use fields::End;
-use fields::read_to;
+use reader::read_to;
 use registry::AS_BLOCK;
 use registry::HEAD;
 use registry::IPV6_NETWORK;

@@ -24,7 +24,7 @@ use Rattle.image.specs.Index.{tagOf}
 use Rattle.image.specs.declared.Run.{Run}
 use Rattle.image.proofs.Soundness.{counted, few-records, few-bytes}
 use Rattle.entries.proofs.Standing.{standing}
-use Rattle.image.proofs.Addresses.{low-family, wide-family}
+use Rattle.nesting.proofs.Families.{low-family, wide-family}
 use Rattle.forest.specs.Blocks.{Block, blocksFrom}
 use Rattle.forest.specs.Defects.{accepted}
 use Rattle.address.proofs.Geometry.{proper}

@@ -1,6 +1,6 @@
 -- A host name of at most 63 bytes is one whose bytes may follow each other and that starts and ends with a letter or a digit.
 use mathlib.Core.Path.{_≡_, refl, sym, _∙_, ap}
-use mathlib.Core.Bool.{Bool, true, false, not, cond, _&&_}
+use mathlib.Core.Bool.{Bool, true, false, not, cond, _&&_, _||_, false≢true}
 use mathlib.Core.List.{List, [], _∷_}
 use Prim.Native.Nat.{ℕ, zero, suc, _+_, _-_, _≤_, _<_, zero-le, suc-le-suc}
 use Prim.Native.Char.{code}
@@ -14,7 +14,7 @@ use Rattle.texts.specs.Texts.{goodHost}
 use Rattle.texts.specs.HostScan.{letterOrDigit, labelsFrom}
 use Rattle.texts.specs.Run.{run, mayFollow, followAt}
 use Rattle.texts.proofs.Labels.{host-labels}
-use Rattle.octets.proofs.Connectives.{and-left, and-right, and-false}
+use Rattle.octets.proofs.Connectives.{and-left, and-right, and-false, within-low}
 use Rattle.texts.proofs.Runs.{run-step, run-ends, run-thirds, first-true, true-first, equal-if, and-both}
 
 module _ (s : List ℕ) where
@@ -141,10 +141,43 @@ host-short (x ∷ xs) h q =
     let d : suc (length xs) - 1 ≡ length xs = omega arith in
     rw (← host-labels (x ∷ xs) (omega arith), d) (labels-first x xs (omega arith) ∙ ap (λ (b : Bool). letterOrDigit x && b) (chain-run xs x))
 
+-- of the bytes that may follow another, those from "0" on are the letters and digits
+letter-low : (y : ℕ) → letterOrDigit y ≡ true → code "0" ≤ y
+unfolding letterOrDigit
+letter-low y e = by-letter (within (code "a") (code "z") y) refl e
+  where
+    by-letter : (t : Bool) → within (code "a") (code "z") y ≡ t → (t || within (code "0") (code "9") y) ≡ true → code "0" ≤ y
+    by-letter true p k = omega (arith, within-low (code "a") (code "z") y p)
+    by-letter false p k = within-low (code "0") (code "9") y k
+
+followed : (x y : ℕ) → mayFollow x y ≡ true → leb (code "0") y ≡ letterOrDigit y
+unfolding mayFollow letterOrDigit
+followed x y = by-byte (letterOrDigit y) (eqb y (code "-")) (eqb y (code ".")) refl refl refl
+  where
+    by-byte : (t h d : Bool) → letterOrDigit y ≡ t → eqb y (code "-") ≡ h → eqb y (code ".") ≡ d
+        → (t || (h && not (eqb x (code "."))) || (d && not (eqb x (code ".")) && not (eqb x (code "-")))) ≡ true → leb (code "0") y ≡ t
+    by-byte true h d l m n e = le-leb (code "0") y (letter-low y l)
+    by-byte false true d l m n e = rw (eqb-true y (code "-") m)
+    by-byte false false true l m n e = rw (eqb-true y (code ".") n)
+    by-byte false false false l m n e = absurd (false≢true e)
+
+first-last : (s : List ℕ) → 1 ≤ length s → run (followAt s) 0 (length s - 1) ≡ true
+    → (letterOrDigit (getD s 0 0) && leb (code "0") (getD s (length s - 1) 0)) ≡ (letterOrDigit (getD s 0 0) && letterOrDigit (getD s (length s - 1) 0))
+unfolding followAt
+first-last [] h e = absurd (omega arith)
+first-last (x ∷ []) h e = by-letter (letterOrDigit x) refl
+  where
+    by-letter : (t : Bool) → letterOrDigit x ≡ t → (t && leb (code "0") x) ≡ (t && t)
+    by-letter true l = le-leb (code "0") x (letter-low x l)
+    by-letter false l = refl
+first-last (x ∷ y ∷ s) h e =
+    let d : suc (suc (length s)) - 1 ≡ suc (length s) = omega arith in
+    ap (λ (b : Bool). letterOrDigit x && b) (rw d (followed _ _ (first-true (followAt (x ∷ y ∷ s)) (suc (length s)) (rw d at e) (length s) (omega arith))))
+
 -- what each test of a short host name decides
 module _ (s : List ℕ) (h : 1 ≤ length s) (q : length s ≤ 63) where
   pub host-unpaired : run (followAt s) 0 (length s - 1) ≡ false → false ≡ goodHost s
   host-unpaired e = rw (host-short s h q, e, and-false (letterOrDigit (getD s (length s - 1) 0)), and-false (letterOrDigit (getD s 0 0)))
 
-  pub host-paired : run (followAt s) 0 (length s - 1) ≡ true → (letterOrDigit (getD s 0 0) && letterOrDigit (getD s (length s - 1) 0)) ≡ goodHost s
-  host-paired e = rw (host-short s h q, e, and-true (letterOrDigit (getD s (length s - 1) 0)))
+  pub host-paired : run (followAt s) 0 (length s - 1) ≡ true → (letterOrDigit (getD s 0 0) && leb (code "0") (getD s (length s - 1) 0)) ≡ goodHost s
+  host-paired e = first-last s h e ∙ rw (host-short s h q, e, and-true (letterOrDigit (getD s (length s - 1) 0)))

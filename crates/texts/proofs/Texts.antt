@@ -8,8 +8,7 @@ use borrow.Author.Tests.{le-leb, lt-leb, leb-false}
 use native.Mathlib.Omega.{arith}
 use lib.Dec.{leb, eqb}
 use lib.ListN.{length, getD}
-use Rattle.octets.specs.Lists.{within, every}
-use Rattle.octets.proofs.Connectives.{within-low, within-high}
+use Rattle.octets.specs.Lists.{within}
 use Rattle.texts.specs.Texts.{textByte, goodText}
 use Rattle.texts.specs.Run.{run, textAt}
 use Rattle.texts.proofs.Runs.{run-step, run-ends, run-thirds, run-every}
@@ -28,30 +27,23 @@ module _ (low : ℕ) (s : List ℕ) where
   unfolding textAt
   text-step at i good e = rw (run-step, e) (regroup (run (textAt low s) at i) _ _ _)
 
-  pub text-whole : run (textAt low s) 0 (length s) ≡ every (textByte low) s
-  unfolding textAt
-  text-whole = run-every (textByte low) (textAt low s) s (λ i. refl)
-
-  pub text-ends : (k : ℕ) → k ≤ length s → length s ≤ k + k
-      → (run (textAt low s) 0 k && run (textAt low s) (length s - k) k) ≡ every (textByte low) s
-  text-ends k h l = run-ends (textAt low s) k k (length s) h h l ∙ text-whole
-
-  pub text-thirds : (k : ℕ) → k + k ≤ length s → length s ≤ k + k + k
-      → (run (textAt low s) 0 k && run (textAt low s) k k && run (textAt low s) (length s - k) k) ≡ every (textByte low) s
-  text-thirds k h l = run-thirds (textAt low s) k (length s) h l ∙ text-whole
-
   pub text-empty : length s < 1 → false ≡ goodText low s
   unfolding goodText
   text-empty h = rw (lt-leb 1 (length s) h)
 
-  module _ (h : 1 ≤ length s) where
-    pub text-long : 64 < length s → false ≡ goodText low s
-    unfolding goodText
-    text-long k = rw (le-leb 1 (length s) h, lt-leb (length s) 64 k)
+  pub text-long : 64 < length s → false ≡ goodText low s
+  unfolding goodText
+  text-long k = rw (le-leb 1 (length s) (omega arith), lt-leb (length s) 64 k)
 
-    pub text-every : length s ≤ 64 → every (textByte low) s ≡ goodText low s
-    unfolding goodText
-    text-every k = rw (le-leb 1 (length s) h, le-leb (length s) 64 k)
+  -- 1 to 64 bytes, tested by runs that overlap or touch
+  module _ (h : 1 ≤ length s) (l : length s ≤ 64) where
+    pub text-whole : run (textAt low s) 0 (length s) ≡ goodText low s
+    unfolding textAt goodText
+    text-whole = run-every (textByte low) (textAt low s) s (λ i. refl) ∙ rw (le-leb 1 (length s) h, le-leb (length s) 64 l)
 
-  pub text-eights : within 8 16 (length s) ≡ true → every (textByte low) s ≡ goodText low s
-  text-eights e = text-every (omega (arith, within-low 8 16 (length s) e)) (omega (arith, within-high 8 16 (length s) e))
+    pub text-ends : (k : ℕ) → k ≤ length s → length s ≤ k + k → (run (textAt low s) 0 k && run (textAt low s) (length s - k) k) ≡ goodText low s
+    text-ends k a b = run-ends (textAt low s) k k (length s) a a b ∙ text-whole
+
+    pub text-thirds : (k : ℕ) → k + k ≤ length s → length s ≤ k + k + k
+        → (run (textAt low s) 0 k && run (textAt low s) k k && run (textAt low s) (length s - k) k) ≡ goodText low s
+    text-thirds k a b = run-thirds (textAt low s) k (length s) a b ∙ text-whole

@@ -8,8 +8,8 @@ ghost use mathlib.Core.List.{map};
 ghost use Prim.Native.Nat.{_+_, _-_, _*_, _≤_, _<_};
 ghost use lib.Dec.{eqb};
 ghost use lib.ListN.{length, take};
-ghost use Rattle.octets.specs.Lists.{within, every};
-ghost use Rattle.texts.specs.Texts.{goodText, goodHost, textByte};
+ghost use Rattle.octets.specs.Lists.{within};
+ghost use Rattle.texts.specs.Texts.{goodText, goodHost};
 ghost use Rattle.texts.specs.Host.{fold, withoutFinalDot};
 ghost use Rattle.texts.specs.Compare.{foldIf, alike};
 ghost use Rattle.texts.specs.HostScan.{letterOrDigit};
@@ -32,10 +32,10 @@ fn text_run(s: &[u8], low: u8, at: usize, n: usize) -> bool
     good
 }
 
-// The same of all bytes, by the first n and the last n, which overlap or touch.
+// Whether all bytes are, by the first n and the last n, which overlap or touch.
 fn text_ends(s: &[u8], low: u8, n: usize) -> bool
-    requires { ⌜ (n ≤ length (now s)) × (length (now s) ≤ n + n) ⌝ }
-    ensures { λ r. ⌜ r ≡ every (textByte low) (now (s .entry)) ⌝ }
+    requires { ⌜ (1 ≤ n) × (n ≤ 32) × (n ≤ length (now s)) × (length (now s) ≤ n + n) ⌝ }
+    ensures { λ r. ⌜ r ≡ goodText low (now (s .entry)) ⌝ }
 {
     let first = text_run(s, low, 0, n);
     let last = text_run(s, low, s.len() - n, n);
@@ -44,8 +44,8 @@ fn text_ends(s: &[u8], low: u8, n: usize) -> bool
 
 // The same by the first n, the next n and the last n.
 fn text_thirds(s: &[u8], low: u8, n: usize) -> bool
-    requires { ⌜ (n + n ≤ length (now s)) × (length (now s) ≤ n + n + n) ⌝ }
-    ensures { λ r. ⌜ r ≡ every (textByte low) (now (s .entry)) ⌝ }
+    requires { ⌜ (1 ≤ n) × (n ≤ 16) × (n + n ≤ length (now s)) × (length (now s) ≤ n + n + n) ⌝ }
+    ensures { λ r. ⌜ r ≡ goodText low (now (s .entry)) ⌝ }
 {
     let first = text_run(s, low, 0, n);
     let second = text_run(s, low, n, n);
@@ -87,9 +87,6 @@ pub fn handle_ok(s: &[u8]) -> bool
     }
     if n <= 32 {
         return text_ends(s, 0x21, 16);
-    }
-    if n <= 48 {
-        return text_thirds(s, 0x21, 16);
     }
     if n <= MOST_TEXT {
         return text_ends(s, 0x21, 32);
@@ -204,7 +201,8 @@ fn host_pairs(s: &[u8], step: usize) -> bool
     host_run(s, 1, 0, n)
 }
 
-// The same as host_ok, of 1 to 63 bytes: no label can be too long. The first and the last byte come after the pairs, which is faster.
+// The same as host_ok, of 1 to 63 bytes: no label can be too long. The first and the last byte come after the pairs, which is faster. Of the
+// bytes that may follow another, those from 0 on are the letters and digits.
 fn short_host_ok(s: &[u8], step: usize) -> bool
     requires { ⌜ (step ≡ 1) × (1 ≤ length (now s)) × (length (now s) ≤ 63) ⌝ }
     ensures { λ r. ⌜ r ≡ goodHost (now (s .entry)) ⌝ }
@@ -212,7 +210,7 @@ fn short_host_ok(s: &[u8], step: usize) -> bool
     if !host_pairs(s, step) {
         return false;
     }
-    letter_or_digit(s[0]) & letter_or_digit(s[s.len() - 1])
+    letter_or_digit(s[0]) & (b'0' <= s[s.len() - 1])
 }
 
 // Whether a label of so many bytes, the last one a hyphen or not, may end.

@@ -2,7 +2,7 @@
 use borrow.Author.Needs.{needs}
 use Prim.Native.Nat.{_-_}
 use native.Mathlib.Omega.{arith}
-use Rattle.image.proofs.Addresses.{wide-family}
+use Rattle.nesting.proofs.Families.{wide-family}
 use Rattle.applying.proofs.Changes.{key-length, key-range, key-handle, key-host}
 use Rattle.applying.proofs.good_key.Statement.{statement}
 use Rattle.applying.proofs.good_key.Tie as tie

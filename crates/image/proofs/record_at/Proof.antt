@@ -19,10 +19,17 @@ returns c =
     let a = c .before .before .before .before in
     read-short (now (a .args .image)) (a .args .at) (a .pre) _ (c .before .before .read .ensures) (c .enum-told .given .1)
 
+-- where a field was read, and from where
+abbrev field : tie.After-known-told → tie.After-read
+field c = c .before .before .before
+
+abbrev start : tie.After-read → tie.Start
+start c = c .before .before
+
 judge-requires : tie.Need-judge-requires
 judge-requires c κs =
-    let a = c .before .before .before .before .before in
-    let i = read-inside (now (a .args .image)) (a .args .at) (a .pre) _ (c .before .before .before .read .ensures) _ _ _ (c .before .tag .given .1) in
+    let a = start (field c) in
+    let i = read-inside (now (a .args .image)) (a .args .at) (a .pre) _ (field c .read .ensures) _ _ _ (c .before .tag .given .1) in
     (i .forward, i .within)
 
 enum-known-middle : tie.Need-enum-known-middle
@@ -33,13 +40,17 @@ enum-known-defect c = search needs
 
 returns-2 : tie.Need-returns-2
 returns-2 c =
-    let a = c .before .before .before .before .before .before .before .before .before in
-    read-good (now (a .args .image)) (a .args .at) (a .pre) _ (c .before .before .before .before .before .before .before .read .ensures) _ _ _ (c .before .before .before .before .before .tag .given .1) _ (c .before .before .before .judge .ensures) _ (c .before .middle .given .1)
+    let j = c .before .before .before in
+    let f = field (j .before) in
+    let a = start f in
+    read-good (now (a .args .image)) (a .args .at) (a .pre) _ (f .read .ensures) _ _ _ (j .before .before .tag .given .1) _ (j .judge .ensures) _ (c .before .middle .given .1)
 
 returns-3 : tie.Need-returns-3
 returns-3 c =
-    let a = c .before .before .before .before .before .before .before .before .before in
-    read-bad (now (a .args .image)) (a .args .at) (a .pre) _ (c .before .before .before .before .before .before .before .read .ensures) _ _ _ (c .before .before .before .before .before .tag .given .1) _ (c .before .before .before .judge .ensures) _ (c .before .defect .given .1)
+    let j = c .before .before .before in
+    let f = field (j .before) in
+    let a = start f in
+    read-bad (now (a .args .image)) (a .args .at) (a .pre) _ (f .read .ensures) _ _ _ (j .before .before .tag .given .1) _ (j .judge .ensures) _ (c .before .defect .given .1)
 
 pub record-at-spec : {M : Type 1} → statement M
 record-at-spec =

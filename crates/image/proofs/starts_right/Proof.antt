@@ -17,19 +17,28 @@ shared-slice-read-if3 : tie.Need-shared-slice-read-if3
 shared-slice-read-if3 c = search needs
 
 returns-3 : tie.Need-returns-3
-returns-3 c = start-1 _ (c .before .before .before .before .if1 .left) (c .before .before .if2 .left) (c .if3 .taken)
+returns-3 c =
+    let b = c .before .before in
+    start-1 _ (b .before .before .if1 .left) (b .if2 .left) (c .if3 .taken)
 
 shared-slice-read-if4 : tie.Need-shared-slice-read-if4
 shared-slice-read-if4 c = search needs
 
 returns-4 : tie.Need-returns-4
-returns-4 c = start-2 _ (c .before .before .before .before .before .before .if1 .left) (c .before .before .before .before .if2 .left) (c .before .before .if3 .left) (c .if4 .taken)
+returns-4 c =
+    let d = c .before .before in
+    let b = d .before .before in
+    start-2 _ (b .before .before .if1 .left) (b .if2 .left) (d .if3 .left) (c .if4 .taken)
 
 shared-slice-read-result : tie.Need-shared-slice-read-result
 shared-slice-read-result c = search needs
 
 returns-5 : tie.Need-returns-5
-returns-5 c = start-3 _ (c .before .before .before .before .before .before .before .if1 .left) (c .before .before .before .before .before .if2 .left) (c .before .before .before .if3 .left) (c .before .if4 .left)
+returns-5 c =
+    let e = c .before in
+    let d = e .before .before in
+    let b = d .before .before in
+    start-3 _ (b .before .before .if1 .left) (b .if2 .left) (d .if3 .left) (e .if4 .left)
 
 pub starts-right-spec : {M : Type 1} → statement M
 starts-right-spec =

@@ -6,7 +6,7 @@ use borrow.Author.Tests.{not-true, not-false}
 use lib.ListN.{length, getD}
 use denote.Ref.{now}
 use Rattle.registry.specs.Tags.{widthOf}
-use Rattle.image.proofs.Addresses.{wide-family}
+use Rattle.nesting.proofs.Families.{wide-family}
 use Rattle.scans.specs.Standing.{blocksIn}
 use Rattle.links.specs.Links.{Link}
 use Rattle.links.proofs.Hops.{Hopping, hops-start, hops-next, hops-stop, hops-end}

@@ -5,7 +5,7 @@ use mathlib.Core.Bool.{not}
 use Prim.Native.Nat.{_-_}
 use native.Mathlib.Omega.{arith}
 use Rattle.records.proofs.Shapes.{no-block, a-block}
-use Rattle.image.proofs.Addresses.{wide-family}
+use Rattle.nesting.proofs.Families.{wide-family}
 use Rattle.merged.proofs.Keys.{other-tags, range-tags, name-tags}
 use Rattle.merged.proofs.key_after.Statement.{statement}
 use Rattle.merged.proofs.key_after.Tie as tie

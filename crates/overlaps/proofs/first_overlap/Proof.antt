@@ -6,7 +6,7 @@ use Prim.Native.Nat.{ℕ, _-_, _≤_, _<_}
 use native.Mathlib.Omega.{arith}
 use lib.ListN.{length, getD, take}
 use denote.Ref.{now}
-use Rattle.image.specs.Nest.{nestIn}
+use Rattle.placing.specs.Step.{nestIn}
 use Rattle.merged.specs.Held.{bytesAt, parsedFrom, entriesAt, Recorded}
 use Rattle.overlaps.specs.Overlaps.{openLast}
 use Rattle.merged.proofs.Known.{known}

@@ -11,9 +11,9 @@ use lib.Dec.{leb}
 use Rattle.registry.specs.Tags.{widthOf}
 use Rattle.octets.specs.Positions.{Wide, numberIn}
 use Rattle.records.specs.Record.{rangeOf, firstOf, lastOf}
-use Rattle.image.proofs.Addresses.{wide-family}
-use Rattle.image.specs.Nest.{nestOf}
-use Rattle.image.proofs.Opens.{nest-none, nest-on, nest-under, nest-out}
+use Rattle.nesting.proofs.Families.{wide-family}
+use Rattle.nesting.specs.Nest.{nestOf}
+use Rattle.nesting.proofs.Search.{nest-none, nest-on, nest-under, nest-out}
 use Rattle.merged.specs.Held.{bytesAt, parsedFrom, Recorded}
 use Rattle.overlaps.specs.Overlaps.{openLast}
 use Rattle.merged.proofs.Known.{known}

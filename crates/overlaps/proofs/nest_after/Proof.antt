@@ -5,7 +5,7 @@ use native.Mathlib.Omega.{arith}
 use denote.Ref.{now}
 use Rattle.records.specs.Record.{Record}
 use Rattle.records.proofs.Shapes.{a-block}
-use Rattle.image.proofs.Steps.{nest-other, nest-named, nest-family}
+use Rattle.placing.proofs.Steps.{nest-other, nest-named, nest-family}
 use Rattle.merged.specs.Held.{parsedFrom}
 use Rattle.merged.proofs.Known.{Known, known}
 use Rattle.overlaps.specs.Overlaps.{OpenBlocks, openLast}

@@ -1,7 +1,7 @@
 -- The run of the family's blocks is asked.
 use mathlib.Core.Path.{sym, _∙_}
 use native.Mathlib.Omega.{arith}
-use Rattle.image.proofs.Addresses.{low-family}
+use Rattle.nesting.proofs.Families.{low-family}
 use borrow.Author.Needs.{needs}
 use Rattle.relations.proofs.find.Statement.{statement}
 use Rattle.relations.proofs.find.Tie as tie

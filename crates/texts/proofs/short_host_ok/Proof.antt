@@ -18,19 +18,16 @@ shared-slice-read-letter-or-digit c = search needs
 letter-or-digit-requires : tie.Need-letter-or-digit-requires
 letter-or-digit-requires c κs = search needs
 
-sub-letter-or-digit : tie.Need-sub-letter-or-digit
-sub-letter-or-digit c = search needs
+sub-result : tie.Need-sub-result
+sub-result c = search needs
 
-shared-slice-read-letter-or-digit-2 : tie.Need-shared-slice-read-letter-or-digit-2
-shared-slice-read-letter-or-digit-2 c = search needs
-
-letter-or-digit-requires-2 : tie.Need-letter-or-digit-requires-2
-letter-or-digit-requires-2 c κs = search needs
+shared-slice-read-result : tie.Need-shared-slice-read-result
+shared-slice-read-result c = search needs
 
 returns-2 : tie.Need-returns-2
 returns-2 c =
-    rw (c .before .before .letter-or-digit .ensures, c .letter-or-digit2 .ensures)
-    (hosts.host-paired _ (search needs) (search needs) (sym (c .before .before .before .before .before .host-pairs .ensures) ∙ not-false _ (c .before .before .before .before .if1 .left)))
+    rw (c .before .letter-or-digit .ensures)
+    (hosts.host-paired _ (search needs) (search needs) (sym (c .before .before .before .before .host-pairs .ensures) ∙ not-false _ (c .before .before .before .if1 .left)))
 
 pub short-host-ok-spec : {M : Type 1} → statement M
 short-host-ok-spec =
@@ -40,7 +37,6 @@ short-host-ok-spec =
     returns
     shared-slice-read-letter-or-digit
     letter-or-digit-requires
-    sub-letter-or-digit
-    shared-slice-read-letter-or-digit-2
-    letter-or-digit-requires-2
+    sub-result
+    shared-slice-read-result
     returns-2)

@@ -1,4 +1,5 @@
 -- `text_ends`: two runs that overlap or touch test every byte.
+use native.Mathlib.Omega.{arith}
 use borrow.Author.Needs.{needs}
 use Rattle.texts.proofs.Texts as texts
 use Rattle.texts.proofs.text_ends.Statement.{statement}
@@ -14,7 +15,7 @@ text-run-requires-2 : tie.Need-text-run-requires-2
 text-run-requires-2 c κs = search needs
 
 returns : tie.Need-returns
-returns c = rw (c .before .text-run .ensures, c .text-run2 .ensures) (texts.text-ends _ _ _ (search needs) (search needs))
+returns c = rw (c .before .text-run .ensures, c .text-run2 .ensures) (texts.text-ends _ _ (omega arith) (omega arith) _ (search needs) (search needs))
 
 pub text-ends-spec : {M : Type 1} → statement M
 text-ends-spec = tie.close (tie.spec text-run-requires sub-text-run text-run-requires-2 returns)

@@ -1,0 +1,54 @@
+-- Three comparisons decide the sorting of two ranges.
+use mathlib.Core.Path.{sym, _∙_}
+use borrow.Author.Tests.{not-true, not-false}
+use denote.Ref.{now}
+use Rattle.address.specs.Positions.{rangeIn}
+use Rattle.nesting.proofs.Families.{after-first, before-first, same-first}
+use borrow.Author.Needs.{needs}
+use Rattle.nesting.proofs.range_after.Statement.{statement}
+use Rattle.nesting.proofs.range_after.Tie as tie
+
+numbers-at-most-requires : tie.Need-numbers-at-most-requires
+numbers-at-most-requires c κs = search needs
+
+returns : tie.Need-returns
+returns c =
+    let a = c .before .before .before .before .args in
+    after-first (rangeIn (now (a .a)) (a .p) (a .width)) (rangeIn (now (a .b)) (a .q) (a .width)) (sym (c .before .numbers-at-most .ensures) ∙ not-true _ (c .if1 .taken))
+
+numbers-at-most-requires-2 : tie.Need-numbers-at-most-requires-2
+numbers-at-most-requires-2 c κs = search needs
+
+returns-2 : tie.Need-returns-2
+returns-2 c =
+    let a = c .before .before .before .before .before .before .args in
+    before-first (rangeIn (now (a .a)) (a .p) (a .width)) (rangeIn (now (a .b)) (a .q) (a .width)) (sym (c .before .before .before .numbers-at-most .ensures) ∙ not-false _ (c .before .before .if1 .left))
+    (sym (c .before .numbers-at-most2 .ensures) ∙ not-true _ (c .if2 .taken))
+
+add-numbers-at-most : tie.Need-add-numbers-at-most
+add-numbers-at-most c = search needs
+
+add-numbers-at-most-2 : tie.Need-add-numbers-at-most-2
+add-numbers-at-most-2 c = search needs
+
+numbers-at-most-requires-3 : tie.Need-numbers-at-most-requires-3
+numbers-at-most-requires-3 c κs = search needs
+
+returns-3 : tie.Need-returns-3
+returns-3 c =
+    let a = c .before .before .before .before .before .before .before .args in
+    same-first (rangeIn (now (a .a)) (a .p) (a .width)) (rangeIn (now (a .b)) (a .q) (a .width)) (sym (c .before .before .before .before .numbers-at-most .ensures) ∙ not-false _ (c .before .before .before .if1 .left))
+    (sym (c .before .before .numbers-at-most2 .ensures) ∙ not-false _ (c .before .if2 .left)) _ (c .numbers-at-most3 .ensures)
+
+pub range-after-spec : {M : Type 1} → statement M
+range-after-spec =
+    tie.close
+    (tie.spec
+    numbers-at-most-requires
+    returns
+    numbers-at-most-requires-2
+    returns-2
+    add-numbers-at-most
+    add-numbers-at-most-2
+    numbers-at-most-requires-3
+    returns-3)
