@@ -12,7 +12,7 @@ use Rattle.forest.specs.Relations.{down}
 use Rattle.forest.specs.Scans.{downPass}
 use Rattle.forest.proofs.Scans.{down-scan}
 use Rattle.scans.specs.Standing.{blocksIn}
-use Rattle.scans.specs.Tests.{freeAfter}
+use Rattle.containment.specs.Tests.{freeAfter}
 use Rattle.scans.proofs.Walks.{blocksLeft, run-start, run-end, within, asked-accepted, asked-few, Here, comparable}
 use Rattle.scans.proofs.Turns.{down-stop, down-found, down-missed}
 use borrow.Author.Needs.{needs}
