@@ -11,12 +11,12 @@ use Rattle.address.specs.Ranges.{Range, strictlyInside}
 use Rattle.forest.specs.Blocks.{Block}
 use Rattle.forest.specs.Defects.{accepted}
 use Rattle.forest.specs.Relations.{select, onlyIf, bottom}
-use Rattle.forest.specs.Scans.{gapIn}
 use Rattle.forest.proofs.Bottom.{bottom-scan}
 use Rattle.scans.specs.Standing.{blocksIn}
 use Rattle.output.specs.Listing.{Collected}
 use Rattle.output.proofs.Emit.{one-more}
 use Rattle.links.specs.Links.{nth, Gathered}
+use Rattle.bottom.specs.Testing.{holdersOf}
 use Rattle.bottom.proofs.Tests.{select-one, select-none}
 
 module _ {s : List ℕ} {family : ℕ} {firsts : List ℕ} {n : ℕ} (g : Gathered s family firsts n) (i : ℕ) (h : i < n) (f : Block → Bool)
@@ -39,10 +39,10 @@ unfolding select
 select-nil f = refl
 
 module _ (bs : List Block) (t : T (accepted bs)) (q : Range) {v : Bool} (e : v ≡ any (λ b. strictlyInside (b .range) q) bs) where
-  scanned : bottom bs q ≡ onlyIf v (select (λ b. gapIn bs q (b .range)) bs)
-  scanned = bottom-scan bs t q ∙ ap (λ (w : Bool). onlyIf w (select (λ b. gapIn bs q (b .range)) bs)) (sym e)
+  scanned : bottom bs q ≡ onlyIf v (holdersOf bs q)
+  scanned = bottom-scan bs t q ∙ ap (λ (w : Bool). onlyIf w (holdersOf bs q)) (sym e)
 
-  pub bottom-some : v ≡ true → {hits : List ℕ} {n : ℕ} → Collected hits (select (λ b. gapIn bs q (b .range)) bs) n → Collected hits (bottom bs q) n
+  pub bottom-some : v ≡ true → {hits : List ℕ} {n : ℕ} → Collected hits (holdersOf bs q) n → Collected hits (bottom bs q) n
   bottom-some h c = record { full = c .full; few = c .few; same = c .same ∙ sym (rw h at scanned) }
 
   pub bottom-none : v ≡ false → {hits : List ℕ} → length hits ≡ 4096 → Collected hits (bottom bs q) 0

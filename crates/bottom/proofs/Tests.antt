@@ -14,7 +14,7 @@ use Rattle.forest.specs.Blocks.{Block}
 use Rattle.forest.specs.Relations.{select}
 use Rattle.forest.proofs.Select.{select-kept, select-dropped}
 use Rattle.scans.specs.Standing.{blocksIn}
-use Rattle.scans.specs.Tests.{Comparable}
+use Rattle.containment.specs.Tests.{Comparable}
 use Rattle.links.specs.Links.{absent, nth, Gathered}
 
 module _ {s : List ℕ} {family : ℕ} {firsts : List ℕ} {n : ℕ} (g : Gathered s family firsts n) where

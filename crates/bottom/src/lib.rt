@@ -5,12 +5,12 @@ ghost use lib.ListN.{length};
 ghost use Rattle.registry.specs.Limits.{mostRecords};
 ghost use Rattle.address.specs.Address.{numbers};
 ghost use Rattle.octets.specs.Words.{numberOf};
-ghost use Rattle.forest.specs.Relations.{select, bottom as «bottom_of»};
-ghost use Rattle.forest.specs.Scans.{gapPass, gapIn};
+ghost use Rattle.forest.specs.Relations.{bottom as «bottom_of»};
+ghost use Rattle.forest.specs.Scans.{gapIn};
 ghost use Rattle.scans.specs.Standing.{blocksIn, Searchable};
 ghost use Rattle.output.specs.Listing.{Collected};
-ghost use Rattle.links.specs.Links.{nth, Gathered, Numbered};
-ghost use Rattle.bottom.specs.Testing.{Testable};
+ghost use Rattle.links.specs.Links.{Gathered, Numbered};
+ghost use Rattle.bottom.specs.Testing.{Testable, rangeAt, leavesFrom, holdersOf};
 use address::AddressRange;
 use address::words_of;
 use image::Run;
@@ -65,7 +65,7 @@ fn children_leave(
     limit: Words,
 ) -> bool
     requires { ⌜ Testable (now image) family (now firsts) (now links) n i × (numberOf free ≤ numberOf limit) ⌝ }
-    ensures { λ r. ⌜ r ≡ gapPass (nth (blocksIn (now (image .entry)) family) i .range) (numberOf free) (numberOf limit) (blocksIn (now (image .entry)) family) ⌝ }
+    ensures { λ r. ⌜ r ≡ leavesFrom (now (image .entry)) family i (numberOf free) (numberOf limit) ⌝ }
 {
     let width = width_of(family);
     let end = links[i] as usize;
@@ -96,7 +96,7 @@ fn leaves_gap(
     range: AddressRange,
 ) -> bool
     requires { ⌜ Testable (now image) family (now firsts) (now links) n i ⌝ }
-    ensures { λ r. ⌜ r ≡ gapIn (blocksIn (now (image .entry)) family) (numbers range) (nth (blocksIn (now (image .entry)) family) i .range) ⌝ }
+    ensures { λ r. ⌜ r ≡ gapIn (blocksIn (now (image .entry)) family) (numbers range) (rangeAt (now (image .entry)) family i) ⌝ }
 {
     let width = width_of(family);
     let start = firsts[i] as usize;
@@ -120,7 +120,7 @@ fn holders(
 ) -> usize
     requires { ⌜ Gathered (now image) family (now firsts) n × Numbered (now image) family from n
         × (length (now hits) ≡ mostRecords) ⌝ }
-    ensures { λ r. ⌜ Collected (now (hits .exit)) (select (λ b. gapIn (blocksIn (now (image .entry)) family) (numbers range) (b .range)) (blocksIn (now (image .entry)) family)) r ⌝ }
+    ensures { λ r. ⌜ Collected (now (hits .exit)) (holdersOf (blocksIn (now (image .entry)) family) (numbers range)) r ⌝ }
 {
     let links = links_of(image, family, firsts, n);
     let mut m: usize = 0;

@@ -16,22 +16,20 @@ use Rattle.texts.proofs.Alike.{alike-itself, alike-others}
 use Rattle.pattern.specs.Pattern.{matchesForm}
 use Rattle.pattern.specs.declared.Form.the-variants.{Exact}
 use Rattle.records.specs.Record.{Record, sortedAfter, follows}
-use Rattle.records.specs.Positions.{bytesOf}
-use Rattle.image.specs.Image.{imageOf}
-use Rattle.image.specs.Part.{recordsOf, contentsOf}
-use Rattle.image.specs.Entries.{contentsSpan}
+use Rattle.image.specs.Part.{contentsOf}
 use Rattle.image.specs.Index.{Selected}
 use Rattle.image.specs.declared.Run.{Run}
 use Rattle.registry.specs.declared.Part.{Part}
 use Rattle.entries.proofs.Halves.{Sorted, by-neighbours, Halved, fewer}
 use Rattle.entries.proofs.Tags.{record-follows}
-use Rattle.search.specs.Search.{numbersFrom, whichOf, fieldOf, isCalled}
+use Rattle.search.specs.Search.{whichOf, fieldOf, isCalled}
+use Rattle.search.specs.Picks.{textAt, calledIn}
 use Rattle.by_name.specs.Seeking.{SortedBy, domains, nameservers, entities}
 use Rattle.search.proofs.Picks.{stands, text-here, foundFrom, turn, passed, before-run, behind-run}
 
 -- the text of record i, where the index says that it stands
 abbrev pub keyAt : List ℕ → List ℕ → Part → ℕ → List ℕ
-keyAt s starts which i = bytesOf s (contentsSpan which s (getD starts i 0))
+keyAt s starts which i = textAt s (getD starts i 0) which
 
 abbrev pub Before : List ℕ → List ℕ → Part → List ℕ → ℕ → Type 0
 Before s starts which wanted i = atMost wanted (keyAt s starts which i) ≡ false
@@ -77,10 +75,7 @@ module _ {s starts : List ℕ} {run : Run} (a : Selected s starts run) {text : T
     abbrev from : ℕ → List ℕ
     from i = foundFrom s run which false Exact wanted i
 
-    abbrev reading : List ℕ
-    reading = numbersFrom (isCalled (run .low) (run .high) text wanted) 0 (recordsOf (imageOf s))
-
-    is-reading : from 0 ≡ reading
+    is-reading : from 0 ≡ calledIn s run text wanted
     unfolding isCalled fieldOf matchesForm
     is-reading = ap (λ (x : Part). foundFrom s run x false Exact wanted 0) by
 
@@ -98,7 +93,7 @@ module _ {s starts : List ℕ} {run : Run} (a : Selected s starts run) {text : T
     unlike i j h k l others = passed a which false Exact wanted i j k (λ m p q. step m (omega arith) (omega arith) (others m p q))
 
     -- every record of the run comes before or behind
-    pub none-found : (low high : ℕ) → Halved (Before s starts which wanted) (Behind s starts which wanted) (run .from) (run .until) low high → high ≤ low → [] ≡ reading
+    pub none-found : (low high : ℕ) → Halved (Before s starts which wanted) (Behind s starts which wanted) (run .from) (run .until) low high → high ≤ low → [] ≡ calledIn s run text wanted
     none-found low high w h =
         let f = a .run-of .forward in
         sym (sym (before-run a which false Exact wanted)
@@ -120,7 +115,7 @@ module _ {s starts : List ℕ} {run : Run} (a : Selected s starts run) {text : T
       later : (m : ℕ) → i + 1 ≤ m → m < run .until → alike false wanted (key m) ≡ false
       later m p q = behind-unlike m (keys-sorted .up (i + 1) m (omega arith) p q (rw e at (next-key i h (omega arith))))
 
-      pub one-found : i ∷ [] ≡ reading
+      pub one-found : i ∷ [] ≡ calledIn s run text wanted
       one-found =
           sym (sym (before-run a which false Exact wanted)
           ∙ unlike (run .from) i (omega arith) h (omega arith) earlier

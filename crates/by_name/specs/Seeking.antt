@@ -5,11 +5,9 @@ use mathlib.Core.List.{List}
 use Rattle.registry.specs.Tags.{domain, entity, nameserver}
 use Rattle.registry.specs.declared.Text.{Text}
 use Rattle.registry.specs.declared.Text.the-variants.{Handle, Host}
-use Rattle.image.specs.Image.{imageOf}
-use Rattle.image.specs.Part.{recordsOf}
 use Rattle.image.specs.declared.Run.{Run}
 use Rattle.output.specs.Listing.{foundNumbers}
-use Rattle.search.specs.Search.{numbersFrom, isCalled}
+use Rattle.search.specs.Picks.{calledIn}
 use Rattle.by_name.specs.declared.Sought.{Sought}
 
 -- S4.6: the records with the tags from low to high are sorted by this text.
@@ -21,4 +19,4 @@ pub data SortedBy : (low high : ℕ) → Text → Type 0 where
 -- 13 comparisons always end the search, with the answer of a full reading.
 pub record SoughtIn (image : List ℕ) (run : Run) (text : Text) (wanted : List ℕ) (r : Sought) : Type 0 where
   pub bounded : r .steps ≤ 13
-  pub answer : foundNumbers (r .found) ≡ numbersFrom (isCalled (run .low) (run .high) text wanted) 0 (recordsOf (imageOf image))
+  pub answer : foundNumbers (r .found) ≡ calledIn image run text wanted

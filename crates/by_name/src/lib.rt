@@ -3,13 +3,11 @@ ghost use mathlib.Core.Path.{_≡_};
 ghost use Prim.Native.Nat.{_+_, _<_};
 ghost use lib.ListN.{length};
 ghost use Rattle.octets.specs.Order.{compared};
-ghost use Rattle.records.specs.Positions.{bytesOf, Inside};
-ghost use Rattle.image.specs.Image.{imageOf};
-ghost use Rattle.image.specs.Part.{recordsOf};
+ghost use Rattle.records.specs.Positions.{Inside};
 ghost use Rattle.image.specs.Entries.{contentsSpan};
 ghost use Rattle.image.specs.Index.{Selected};
 ghost use Rattle.output.specs.Listing.{Reported};
-ghost use Rattle.search.specs.Search.{numbersFrom, isCalled};
+ghost use Rattle.search.specs.Picks.{textAt, calledIn};
 ghost use Rattle.by_name.specs.Seeking.{SortedBy, SoughtIn};
 use image::Run;
 use octets::Ordering;
@@ -25,7 +23,8 @@ use search::which_of;
 // How the handle or the name of the record at a position sorts beside the text that is wanted. It counts itself.
 fn compare_at(image: &[u8], at: usize, which: Part, wanted: &[u8], steps: &mut u32) -> Ordering
     requires { ⌜ Inside (length (now image)) (contentsSpan which (now image) at) × (now steps < 13) ⌝ }
-    ensures { λ r. ⌜ (r ≡ compared (bytesOf (now (image .entry)) (contentsSpan which (now (image .entry)) at)) (now (wanted .entry))) × (now (steps .exit) ≡ now (steps .entry) + 1) ⌝ }
+    ensures order { λ r. ⌜ r ≡ compared (textAt (now (image .entry)) at which) (now (wanted .entry)) ⌝ }
+    ensures counted { λ r. ⌜ now (steps .exit) ≡ now (steps .entry) + 1 ⌝ }
 {
     *steps += 1;
     words::compare(text_at(image, at, which), wanted)
@@ -76,7 +75,7 @@ pub fn called(
     list: &mut [u32],
 ) -> Listed
     requires { ⌜ Selected (now image) (now starts) run × SortedBy (run .low) (run .high) text ⌝ }
-    ensures { λ r. ⌜ Reported (numbersFrom (isCalled (run .low) (run .high) text (now (wanted .entry))) 0 (recordsOf (imageOf (now (image .entry))))) (now (list .entry)) (now (list .exit)) r ⌝ }
+    ensures { λ r. ⌜ Reported (calledIn (now (image .entry)) run text (now (wanted .entry))) (now (list .entry)) (now (list .exit)) r ⌝ }
 {
     let found = seek(image, starts, run, text, wanted).found;
     report_found(found, list)

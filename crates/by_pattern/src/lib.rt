@@ -2,15 +2,12 @@
 ghost use mathlib.Core.Path.{_≡_};
 ghost use lib.ListN.{length};
 ghost use Rattle.registry.specs.Limits.{mostRecords};
-ghost use Rattle.records.specs.Positions.{bytesOf, Inside};
-ghost use Rattle.image.specs.Image.{imageOf};
-ghost use Rattle.image.specs.Part.{recordsOf};
+ghost use Rattle.records.specs.Positions.{Inside};
 ghost use Rattle.image.specs.Entries.{contentsSpan};
 ghost use Rattle.image.specs.Index.{Selected};
 ghost use Rattle.pattern.specs.Pattern.{matchesForm};
 ghost use Rattle.output.specs.Listing.{Reported, Collected};
-ghost use Rattle.search.specs.Search.{numbersFrom, isMatch};
-ghost use Rattle.search.specs.Picks.{picksRecord};
+ghost use Rattle.search.specs.Picks.{textAt, pickedIn, matchingIn};
 use image::Run;
 use output::Listed;
 use output::report;
@@ -25,7 +22,7 @@ use search::which_of;
 // Whether the handle or the name of the record at a position matches.
 fn picked(image: &[u8], at: usize, which: Part, fold: bool, form: Form, pattern: &[u8]) -> bool
     requires { ⌜ Inside (length (now image)) (contentsSpan which (now image) at) ⌝ }
-    ensures { λ r. ⌜ r ≡ matchesForm fold form (now (pattern .entry)) (bytesOf (now (image .entry)) (contentsSpan which (now (image .entry)) at)) ⌝ }
+    ensures { λ r. ⌜ r ≡ matchesForm fold form (now (pattern .entry)) (textAt (now (image .entry)) at which) ⌝ }
 {
     pattern::form_matches(fold, form, pattern, text_at(image, at, which))
 }
@@ -42,7 +39,7 @@ fn collect(
     hits: &mut PerRecord,
 ) -> usize
     requires { ⌜ Selected (now image) (now starts) run × (length (now hits) ≡ mostRecords) ⌝ }
-    ensures { λ r. ⌜ Collected (now (hits .exit)) (numbersFrom (picksRecord (run .low) (run .high) which fold form (now (pattern .entry))) 0 (recordsOf (imageOf (now (image .entry))))) r ⌝ }
+    ensures { λ r. ⌜ Collected (now (hits .exit)) (pickedIn (now (image .entry)) run which fold form (now (pattern .entry))) r ⌝ }
 {
     let mut n: usize = 0;
     let mut i = run.from;
@@ -70,7 +67,7 @@ fn list_picked(
     list: &mut [u32],
 ) -> Listed
     requires { ⌜ Selected (now image) (now starts) run ⌝ }
-    ensures { λ r. ⌜ Reported (numbersFrom (picksRecord (run .low) (run .high) which fold form (now (pattern .entry))) 0 (recordsOf (imageOf (now (image .entry))))) (now (list .entry)) (now (list .exit)) r ⌝ }
+    ensures { λ r. ⌜ Reported (pickedIn (now (image .entry)) run which fold form (now (pattern .entry))) (now (list .entry)) (now (list .exit)) r ⌝ }
 {
     let mut hits = [0u32; MOST_RECORDS];
     let n = collect(image, starts, run, which, fold, form, pattern, &mut hits);
@@ -88,7 +85,7 @@ pub fn matching(
     list: &mut [u32],
 ) -> Listed
     requires { ⌜ Selected (now image) (now starts) run ⌝ }
-    ensures { λ r. ⌜ Reported (numbersFrom (isMatch (run .low) (run .high) text form (now (pattern .entry))) 0 (recordsOf (imageOf (now (image .entry))))) (now (list .entry)) (now (list .exit)) r ⌝ }
+    ensures { λ r. ⌜ Reported (matchingIn (now (image .entry)) run text form (now (pattern .entry))) (now (list .entry)) (now (list .exit)) r ⌝ }
 {
     let fold = pattern::folds_case(text);
     let which = which_of(text);

@@ -2,17 +2,19 @@
 use Prim.Native.Nat.{ℕ}
 use mathlib.Core.Bool.{Bool, true, false}
 use mathlib.Core.List.{List}
+use Rattle.registry.specs.declared.Relation.the-variants.{Up, Down, Top, Bottom}
 use Rattle.address.specs.Ranges.{Range}
 use Rattle.forest.specs.Blocks.{Block}
-use Rattle.forest.specs.Relations.{down, bottom}
-use Rattle.scans.specs.Around.{aroundIn}
+use Rattle.forest.specs.Relations.{lookup, up, top, down, bottom}
 use Rattle.relations.specs.declared.Finding.{Finding}
-use Rattle.relations.specs.declared.Finding.the-variants.{Around, Down, Bottom}
+use Rattle.relations.specs.declared.Finding.the-variants.{Lookup, Relation}
 
 unfoldable pub foundIn : Finding → List Block → Range → List ℕ
-foundIn (Around which) bs q = aroundIn which bs q
-foundIn Down bs q = down bs q
-foundIn Bottom bs q = bottom bs q
+foundIn Lookup bs q = lookup bs q
+foundIn (Relation Up) bs q = up bs q
+foundIn (Relation Down) bs q = down bs q
+foundIn (Relation Top) bs q = top bs q
+foundIn (Relation Bottom) bs q = bottom bs q
 
 -- bottom, or down: those that may find many
 abbrev pub insideOf : Bool → List Block → Range → List ℕ

@@ -8,6 +8,7 @@ ghost use Rattle.registry.specs.Tags.{isBlock};
 ghost use Rattle.address.specs.Address.{number, numbers};
 ghost use Rattle.image.specs.Index.{Indexed};
 ghost use Rattle.output.specs.Listing.{Reported, Collected};
+ghost use Rattle.scans.specs.Around.{aroundIn};
 ghost use Rattle.scans.specs.Standing.{blocksIn, Searchable};
 ghost use Rattle.relations.specs.Finding.{foundIn, insideOf};
 use address::AddressRange;
@@ -17,14 +18,29 @@ use output::report;
 use output::report_found;
 use registry::MOST_RECORDS;
 use registry::PerRecord;
+use registry::Relation;
 use scans::Around;
 use scans::find_around;
 
 // What is asked of the blocks of a family and a range.
 pub enum Finding {
-    Around(Around),
-    Down,
-    Bottom,
+    Lookup,
+    Relation(Relation),
+}
+
+// The block that lookup, up or top finds, reported to the list.
+fn list_around(
+    image: &[u8],
+    starts: &PerRecord,
+    blocks: Run,
+    range: AddressRange,
+    which: Around,
+    list: &mut [u32],
+) -> Listed
+    requires { ⌜ Searchable (now image) (now starts) blocks range ⌝ }
+    ensures { λ r. ⌜ Reported (aroundIn which (blocksIn (now (image .entry)) (blocks .low)) (numbers range)) (now (list .entry)) (now (list .exit)) r ⌝ }
+{
+    report_found(find_around(image, starts, blocks, range, which), list)
 }
 
 // The blocks that down, or bottom, finds.
@@ -76,11 +92,13 @@ fn list_found(
     ensures { λ r. ⌜ Reported (foundIn what (blocksIn (now (image .entry)) (blocks .low)) (numbers range)) (now (list .entry)) (now (list .exit)) r ⌝ }
 {
     match what {
-        Finding::Around(which) => {
-            report_found(find_around(image, starts, blocks, range, which), list)
-        }
-        Finding::Down => list_inside(image, starts, blocks, range, false, list),
-        Finding::Bottom => list_inside(image, starts, blocks, range, true, list),
+        Finding::Lookup => list_around(image, starts, blocks, range, Around::Lookup, list),
+        Finding::Relation(relation) => match relation {
+            Relation::Up => list_around(image, starts, blocks, range, Around::Up, list),
+            Relation::Down => list_inside(image, starts, blocks, range, false, list),
+            Relation::Top => list_around(image, starts, blocks, range, Around::Top, list),
+            Relation::Bottom => list_inside(image, starts, blocks, range, true, list),
+        },
     }
 }
 

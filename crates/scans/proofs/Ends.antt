@@ -12,7 +12,7 @@ use Rattle.octets.proofs.Tests.{is-false, each, any-yes}
 use Rattle.address.proofs.Geometry.{covers-iff, strictly-iff, inside-iff}
 use Rattle.forest.proofs.Laminar.{Laminar, cons, Before, around, left, is-proper}
 use Rattle.forest.proofs.Select.{None}
-use Rattle.scans.specs.Tests.{surroundsBy}
+use Rattle.containment.specs.Tests.{surroundsBy}
 
 rises : {b : Block} {bs : List Block} → Laminar (b ∷ bs) → (c : Block) → c ∈ (b ∷ bs) → b .range .first ≤ c .range .first
 rises {b} (cons p f l) = each (λ c. b .range .first ≤ c .range .first) (omega arith) (λ c m. go c (f c m))

@@ -1,4 +1,3 @@
-pub mod Cover
 pub mod Accepting
 pub mod Walks
 pub mod Ends

@@ -25,7 +25,8 @@ use Rattle.scans.specs.Around.{aroundIn}
 use Rattle.scans.specs.declared.Around.{Around}
 use Rattle.scans.specs.declared.Around.the-variants.{Lookup, Up, Top}
 use Rattle.scans.specs.Standing.{blocksIn, Searchable}
-use Rattle.scans.specs.Tests.{surroundsBy, freeAfter, keepsFrom, strictBy, firstBy, passing}
+use Rattle.containment.specs.Tests.{surroundsBy, freeAfter, keepsFrom}
+use Rattle.scans.specs.Passing.{strictBy, firstBy, passing}
 use Rattle.output.specs.Listing.{foundNumbers}
 use Rattle.output.specs.declared.Found.{Found}
 use Rattle.output.specs.declared.Found.the-variants.{At, Nothing}

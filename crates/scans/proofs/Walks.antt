@@ -30,7 +30,7 @@ use Rattle.forest.specs.Defects.{accepted}
 use Rattle.address.proofs.Geometry.{proper}
 use Rattle.forest.proofs.Laminar.{Laminar, cons, accepted-laminar}
 use Rattle.scans.specs.Standing.{blocksIn, Searchable}
-use Rattle.scans.specs.Tests.{Comparable}
+use Rattle.containment.specs.Tests.{Comparable}
 use Rattle.scans.proofs.Accepting.{blocks-accepted}
 
 -- the blocks of a family from record i on

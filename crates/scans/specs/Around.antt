@@ -1,4 +1,4 @@
--- Lookup, up and top, which find one block at most (S10.3).
+-- Serves contracts and proofs. Lookup, up and top, which find one block at most (S10.3).
 use Prim.Native.Nat.{ℕ}
 use mathlib.Core.List.{List}
 use Rattle.address.specs.Ranges.{Range}

@@ -1,3 +1,3 @@
 pub mod Standing
-pub mod Tests
+pub mod Passing
 pub mod Around

@@ -1,89 +1,27 @@
 // Lookup, up, top and down over a sound image, and whether bottom has an answer, each by one pass over the records of a tag, which are sorted
-// by their first address, and the tests on ranges that they use.
+// by their first address.
 ghost use mathlib.Core.Path.{_≡_};
-ghost use Prim.Native.Nat.{_+_, _*_, _≤_, _<_};
+ghost use Prim.Native.Nat.{_+_, _≤_, _<_};
 ghost use lib.ListN.{length, getD};
 ghost use Rattle.registry.specs.Tags.{rangeOffset};
 ghost use Rattle.registry.specs.Limits.{mostImage, mostRecords};
 ghost use Rattle.octets.specs.Lists.{any as «any_of»};
-ghost use Rattle.address.specs.Address.{number, numbers};
-ghost use Rattle.address.specs.Ranges.{covers as «covers_of», strictlyInside};
-ghost use Rattle.octets.specs.Positions.{numberIn};
-ghost use Rattle.address.specs.Positions.{rangeIn};
+ghost use Rattle.address.specs.Address.{numbers};
+ghost use Rattle.address.specs.Ranges.{strictlyInside};
 ghost use Rattle.forest.specs.Relations.{down as «down_of»};
 ghost use Rattle.scans.specs.Around.{aroundIn};
 ghost use Rattle.scans.specs.Standing.{blocksIn, Searchable};
 ghost use Rattle.output.specs.Listing.{foundNumbers, Collected};
-ghost use Rattle.scans.specs.Tests.{Comparable, surroundsBy, freeAfter, keepsFrom, strictBy, firstBy};
+ghost use Rattle.scans.specs.Passing.{strictBy, firstBy};
 use address::AddressRange;
 use address::at_least_at;
-use address::at_most_at;
+use containment::keeps;
+use containment::strictly_inside;
+use containment::surrounds;
 use image::Run;
 use output::Found;
 use registry::PerRecord;
 use registry::RANGE_OFFSET;
-
-// Whether the block's range at a position covers the range.
-fn covers(image: &[u8], at: usize, width: usize, range: AddressRange) -> bool
-    requires { ⌜ Comparable (now image) at width ⌝ }
-    ensures { λ r. ⌜ r ≡ «covers_of» (rangeIn (now (image .entry)) at width) (numbers range) ⌝ }
-{
-    if !at_least_at(range.first, image, at, width) {
-        return false;
-    }
-    at_most_at(range.last, image, at + width, width)
-}
-
-// Whether it lies inside the range.
-fn inside(image: &[u8], at: usize, width: usize, range: AddressRange) -> bool
-    requires { ⌜ Comparable (now image) at width ⌝ }
-    ensures { λ r. ⌜ r ≡ «covers_of» (numbers range) (rangeIn (now (image .entry)) at width) ⌝ }
-{
-    if !at_most_at(range.first, image, at, width) {
-        return false;
-    }
-    at_least_at(range.last, image, at + width, width)
-}
-
-// Whether it lies inside and differs.
-fn strictly_inside(image: &[u8], at: usize, width: usize, range: AddressRange) -> bool
-    requires { ⌜ Comparable (now image) at width ⌝ }
-    ensures { λ r. ⌜ r ≡ strictlyInside (rangeIn (now (image .entry)) at width) (numbers range) ⌝ }
-{
-    if !inside(image, at, width, range) {
-        return false;
-    }
-    !covers(image, at, width, range)
-}
-
-// Whether it is around the range, strictly or not. It does not begin after the range's first.
-fn surrounds(image: &[u8], at: usize, width: usize, range: AddressRange, strict: bool) -> bool
-    requires { ⌜ Comparable (now image) at width × (numberIn (now image) at width ≤ number (range .first)) ⌝ }
-    ensures { λ r. ⌜ r ≡ surroundsBy strict (rangeIn (now (image .entry)) at width) (numbers range) ⌝ }
-{
-    if !at_most_at(range.last, image, at + width, width) {
-        return false;
-    }
-    if strict {
-        return !inside(image, at, width, range);
-    }
-    true
-}
-
-// Whether it is strictly inside the range and begins after the last of the n blocks kept before it, whose range is at kept.
-fn keeps(image: &[u8], at: usize, width: usize, range: AddressRange, n: usize, kept: usize) -> bool
-    requires { ⌜ Comparable (now image) at width × (0 < n → kept + 2 * width ≤ length (now image)) ⌝ }
-    ensures { λ r. ⌜ r ≡ keepsFrom (freeAfter n (numberIn (now (image .entry)) (kept + width) width))
-        (rangeIn (now (image .entry)) at width) (numbers range) ⌝ }
-{
-    if !strictly_inside(image, at, width, range) {
-        return false;
-    }
-    if n == 0 {
-        return true;
-    }
-    !words::numbers_at_most(image, at, image, kept + width, width)
-}
 
 // Where the range of a block starts, by its record number.
 pub fn range_start(starts: &PerRecord, number: u32) -> usize

@@ -12,7 +12,7 @@ use Rattle.octets.specs.Lists.{within, keep}
 use Rattle.registry.specs.declared.Text.{Text}
 use Rattle.pattern.specs.Pattern.{matchesForm, foldsCase}
 use Rattle.pattern.specs.declared.Form.{Form}
-use Rattle.records.specs.Positions.{bytesOf, Inside}
+use Rattle.records.specs.Positions.{Inside}
 use Rattle.image.specs.Image.{imageOf}
 use Rattle.image.specs.Part.{recordsOf, contentsOf}
 use Rattle.image.specs.Entries.{contentsSpan}
@@ -25,13 +25,12 @@ use Rattle.entries.proofs.Standing.{standing-of, contents-in-image, start-insid
 use Rattle.output.specs.Listing.{Reported}
 use Rattle.output.specs.declared.Listed.{Listed}
 use Rattle.search.specs.Search.{numbersFrom, whichOf, fieldOf, isMatch}
-use Rattle.search.specs.Picks.{picksRecord}
+use Rattle.search.specs.Picks.{textAt, picksRecord, pickedIn, matchingIn}
 
 -- a search by pattern: the part that the text is, and case folded as it asks
 pub matched :
     (run : Run) (text : Text) (form : Form) (pattern s : List ℕ) {fold : Bool} → fold ≡ foldsCase text → {which : Part} → which ≡ whichOf text → {list after : List ℕ} {r : Listed}
-    → Reported (numbersFrom (picksRecord (run .low) (run .high) which fold form pattern) 0 (recordsOf (imageOf s))) list after r
-    → Reported (numbersFrom (isMatch (run .low) (run .high) text form pattern) 0 (recordsOf (imageOf s))) list after r
+    → Reported (pickedIn s run which fold form pattern) list after r → Reported (matchingIn s run text form pattern) list after r
 unfolding isMatch fieldOf
 matched run text form pattern s e f p = rw (e, f) at p
 
@@ -53,7 +52,7 @@ module _ {s starts : List ℕ} {run : Run} (a : Selected s starts run) where
     pub text-inside : (which : Part) → Inside (length s) (contentsSpan which s (getD starts i 0))
     text-inside which = rw (a .indexed .start i known) (contents-in-image stands which)
 
-    pub text-here : (which : Part) → bytesOf s (contentsSpan which s (getD starts i 0)) ≡ contentsOf which (stands .r)
+    pub text-here : (which : Part) → textAt s (getD starts i 0) which ≡ contentsOf which (stands .r)
     text-here which = rw (a .indexed .start i known) (stands .contents which)
 
 -- what is found from record i on
@@ -70,7 +69,7 @@ module _ {s starts : List ℕ} {run : Run} (a : Selected s starts run) (which : 
   -- a record of the run: the text decides
   pub turn :
       (i : ℕ) → run .from ≤ i → (h : i < run .until) {v : Bool}
-      → v ≡ matchesForm fold form pattern (bytesOf s (contentsSpan which s (getD starts i 0))) → from i ≡ keep v i (from (i + 1))
+      → v ≡ matchesForm fold form pattern (textAt s (getD starts i 0) which) → from i ≡ keep v i (from (i + 1))
   turn i k h {v} e =
       let x = stands a i h in
       let t = a .run-of .inside i k h in

@@ -11,6 +11,7 @@ use registry::AS_BLOCK;
 use registry::PerRecord;
 use registry::RANGE_OFFSET;
 use registry::Relation;
+use relations::Finding;
 
 // The third call on a sound image.
 pub fn relation(
@@ -34,7 +35,7 @@ pub fn relation(
         return answers::reply(8, kind, 0);
     }
     let range = address::range_at(image, at + RANGE_OFFSET, registry::width_of(tag));
-    let what = calls::finding_of(relation);
+    let what = Finding::Relation(relation);
     let listed = relations::find(image, starts, count, what, tag, range, list);
     answers::reported(kind, listed)
 }

@@ -19,11 +19,14 @@ gather-requires c κs = (reachable (c .before .before .before .before .pre .0), 
 
 holders-requires : tie.Need-holders-requires
 holders-requires c κs =
-    let q = c .before .before .before .before .before .before .before .pre .0 in
-    (gathered q (c .before .before .gather .ensures), numbered q (c .before .before .gather .ensures), c .before .before .before .before .before .before .before .pre .1)
+    let gathers = c .before .before in
+    let p = gathers .before .before .before .before .before .pre in
+    (gathered (p .0) (gathers .gather .ensures), numbered (p .0) (gathers .gather .ensures), p .1)
 
 returns-2 : tie.Need-returns-2
-returns-2 c = bottom-some _ (asked-accepted (c .before .before .before .before .before .before .before .before .pre .0)) _ (c .before .before .before .before .before .before .any-inside .ensures) (not-false _ (c .before .before .before .before .before .if1 .left)) (c .holders .ensures)
+returns-2 c =
+    let some = c .before .before .before .before .before in
+    bottom-some _ (asked-accepted (some .before .before .before .pre .0)) _ (some .before .any-inside .ensures) (not-false _ (some .if1 .left)) (c .holders .ensures)
 
 pub bottom-spec : {M : Type 1} → statement M
 bottom-spec =

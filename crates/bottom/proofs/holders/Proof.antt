@@ -7,8 +7,8 @@ use native.Mathlib.Omega.{arith}
 use lib.ListN.{length, take, drop}
 use Rattle.address.specs.Address.{numbers}
 use Rattle.forest.specs.Relations.{select}
-use Rattle.forest.specs.Scans.{gapIn}
 use Rattle.scans.specs.Standing.{blocksIn}
+use Rattle.bottom.specs.Testing.{isHolder, holdersOf}
 use Rattle.bottom.proofs.Tests.{none-left}
 use Rattle.bottom.proofs.Picks.{pick, pass, select-nil}
 use borrow.Author.Needs.{needs}
@@ -20,11 +20,19 @@ Inv-loop image family from firsts n range hits₀ links m₀ i₀ hits m i =
     (i ≤ n)
     × (m ≤ i)
     × (length hits ≡ 4096)
-    × (take m hits ++ select (λ b. gapIn (blocksIn image family) (numbers range) (b .range)) (drop i (blocksIn image family))
-    ≡ select (λ b. gapIn (blocksIn image family) (numbers range) (b .range)) (blocksIn image family))
+    × (take m hits ++ select (isHolder (blocksIn image family) (numbers range)) (drop i (blocksIn image family))
+    ≡ holdersOf (blocksIn image family) (numbers range))
 
 abbrev μ-loop : tie.MeasureT-loop
 μ-loop image family from firsts n range hits₀ links m₀ i₀ hits m i = n - i
+
+-- the call, from a turn of the loop
+abbrev call : tie.In-loop Inv-loop μ-loop → tie.Start Inv-loop μ-loop
+call c = c .before .before .before .before
+
+-- the blocks are few
+few : (c : tie.After-leaves-gap Inv-loop μ-loop) → call (c .before .before) .args .n ≤ 4096
+few c = call (c .before .before) .pre .0 .few
 
 links-of-requires : tie.Need-links-of-requires Inv-loop μ-loop
 links-of-requires c κs = c .before .pre .0
@@ -36,32 +44,33 @@ leaves-gap-requires : tie.Need-leaves-gap-requires Inv-loop μ-loop
 leaves-gap-requires c κs = record { gathered = c .before .before .before .before .before .pre .0; linked = c .before .before .before .links-of .ensures; known = c .before .loop-test .taken }
 
 cast-hits : tie.Need-cast-hits Inv-loop μ-loop
-cast-hits c = let few = c .before .before .before .before .before .before .before .pre .0 .few in search needs
+cast-hits c = let k = few (c .before) in search needs
 
 add-hits : tie.Need-add-hits Inv-loop μ-loop
-add-hits c = let few = c .before .before .before .before .before .before .before .pre .1 .few in search needs
+add-hits c = let k = call (c .before .before .before) .pre .1 .few in search needs
 
 mul-hits : tie.Need-mul-hits Inv-loop μ-loop
-mul-hits c = let few = c .before .before .before .before .before .before .before .pre .0 .few in search needs
+mul-hits c = let k = few (c .before) in search needs
 
 element-write-hits : tie.Need-element-write-hits Inv-loop μ-loop
-element-write-hits c = let few = c .before .before .before .before .before .before .before .pre .0 .few in search needs
+element-write-hits c = let k = few (c .before) in search needs
 
 add-m : tie.Need-add-m Inv-loop μ-loop
-add-m c = let few = c .before .before .before .before .before .before .before .pre .0 .few in search needs
+add-m c = let k = few (c .before) in search needs
 
 add-i : tie.Need-add-i Inv-loop μ-loop
-add-i c = let few = c .before .before .before .before .before .before .before .pre .0 .few in search needs
+add-i c = let k = few (c .before) in search needs
 
 loop-less : tie.Need-loop-less Inv-loop μ-loop
 loop-less c = search needs
 
 loop-again : tie.Need-loop-again Inv-loop μ-loop
 loop-again c =
-    let p = c .before .before .before .before .before .before .before .pre in
-    let few = p .0 .few in
-    let l = c .before .before .before .before .loop in
-    let t = c .before .before .before .loop-test .taken in
+    let here = c .before .before .before in
+    let p = call here .pre in
+    let k = few (c .before) in
+    let l = here .before .loop in
+    let t = here .loop-test .taken in
     ⊎-elim
     (λ w.
     let r = pick (p .0) (l .i) t _ (c .before .leaves-gap .ensures) (l .hits) (l .m) (l .inv .2) (l .inv .3) (w .0 .taken) (omega arith) _ (p .1 .number (l .i) t) (w .1) (w .2) in
@@ -73,13 +82,15 @@ loop-again c =
 
 returns : tie.Need-returns Inv-loop μ-loop
 returns c =
-    let p = c .before .before .before .before .pre in
-    let few = p .0 .few in
+    let start = c .before .before .before .before in
+    let p = start .pre in
+    let a = start .args in
+    let k = p .0 .few in
     let l = c .before .loop in
     record {
       full = l .inv .2;
       few = omega arith;
-      same = sym (append-nil (take (l .m) (l .hits))) ∙ (rw (none-left (p .0) (l .i) (c .loop-test .left), select-nil (λ b. gapIn (blocksIn (c .before .before .before .before .args .image .now) (c .before .before .before .before .args .family)) (numbers (c .before .before .before .before .args .range)) (b .range))) at (l .inv .3));
+      same = sym (append-nil (take (l .m) (l .hits))) ∙ (rw (none-left (p .0) (l .i) (c .loop-test .left), select-nil (isHolder (blocksIn (a .image .now) (a .family)) (numbers (a .range)))) at (l .inv .3));
     }
 
 pub holders-spec : {M : Type 1} → statement M

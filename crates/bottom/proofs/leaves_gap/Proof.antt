@@ -4,23 +4,28 @@ use native.Mathlib.Omega.{arith}
 use borrow.Author.Tests.{not-true, not-false, leb-true}
 use Rattle.octets.specs.Words.{numberOf}
 use Rattle.address.specs.Address.{numbers}
-use Rattle.forest.specs.Scans.{gapPass, gapIn}
+use Rattle.forest.specs.Scans.{gapIn}
 use Rattle.scans.specs.Standing.{blocksIn}
-use Rattle.links.specs.Links.{nth}
+use Rattle.bottom.specs.Testing.{rangeAt, leavesFrom}
 use Rattle.bottom.proofs.Tests.{comparable-at}
 use Rattle.bottom.proofs.Children.{whole, walk-none}
 use borrow.Author.Needs.{needs}
 use Rattle.bottom.proofs.leaves_gap.Statement.{statement}
 use Rattle.bottom.proofs.leaves_gap.Tie as tie
 
+-- the call, from where limit was found
+abbrev call : tie.After-lesser → tie.Start
+call c = let wide = c .before .before .before .before in wide .before .before
+
 -- what block i and the range have
-both : (c : tie.After-greater) → let a = c .before .before .before .before .before .before .before .before .before .args in
-    gapPass (nth (blocksIn (a .image .now) (a .family)) (a .i) .range) (numberOf (c .greater .result)) (numberOf (c .before .before .before .lesser .result)) (blocksIn (a .image .now) (a .family))
-    ≡ gapIn (blocksIn (a .image .now) (a .family)) (numbers (a .range)) (nth (blocksIn (a .image .now) (a .family)) (a .i) .range)
+both : (c : tie.After-greater) → let last = c .before .before .before in let a = call last .args in
+    leavesFrom (a .image .now) (a .family) (a .i) (numberOf (c .greater .result)) (numberOf (last .lesser .result))
+    ≡ gapIn (blocksIn (a .image .now) (a .family)) (numbers (a .range)) (rangeAt (a .image .now) (a .family) (a .i))
 both c =
-    whole (c .before .before .before .before .before .before .before .before .before .pre) (c .before .before .before .before .before .before .before .width-of .ensures .0) (numbers (c .before .before .before .before .before .before .before .before .before .args .range))
+    let last = c .before .before .before in
+    whole (call last .pre) (last .before .before .before .before .width-of .ensures .0) (numbers (call last .args .range))
     (c .greater .ensures ∙ rw (c .before .before .words-of2 .ensures, c .before .words-at2 .ensures))
-    (c .before .before .before .lesser .ensures ∙ rw (c .before .before .before .before .before .words-of .ensures, c .before .before .before .before .words-at .ensures))
+    (last .lesser .ensures ∙ rw (last .before .before .words-of .ensures, last .before .words-at .ensures))
 
 width-of-requires : tie.Need-width-of-requires
 width-of-requires c κs = search needs
@@ -54,8 +59,9 @@ words-of-requires-2 c κs = search needs
 
 words-at-requires-2 : tie.Need-words-at-requires-2
 words-at-requires-2 c κs =
-    let p = c .before .before .before .before .before .before .before .pre in
-    let k = comparable-at (p .gathered) _ (p .known) (c .before .before .before .before .before .width-of .ensures .0) in
+    let last = c .before in
+    let p = call last .pre in
+    let k = comparable-at (p .gathered) _ (p .known) (last .before .before .before .before .width-of .ensures .0) in
     (k .wide, omega (arith, k .fits))
 
 greater-requires : tie.Need-greater-requires
@@ -65,10 +71,10 @@ words-at-most-requires : tie.Need-words-at-most-requires
 words-at-most-requires c κs = search needs
 
 returns : tie.Need-returns
-returns c = walk-none (c .before .before .before .before .before .before .before .before .before .before .before .pre) _ _ (c .before .words-at-most .ensures) (not-true _ (c .if1 .taken)) ∙ both (c .before .before)
+returns c = walk-none (call (c .before .before .before .before .before) .pre) _ _ (c .before .words-at-most .ensures) (not-true _ (c .if1 .taken)) ∙ both (c .before .before)
 
 children-leave-requires : tie.Need-children-leave-requires
-children-leave-requires c κs = (c .before .before .before .before .before .before .before .before .before .before .before .pre, leb-true _ _ (sym (c .before .words-at-most .ensures) ∙ not-false _ (c .if1 .left)))
+children-leave-requires c κs = (call (c .before .before .before .before .before) .pre, leb-true _ _ (sym (c .before .words-at-most .ensures) ∙ not-false _ (c .if1 .left)))
 
 returns-2 : tie.Need-returns-2
 returns-2 c = c .children-leave .ensures ∙ both (c .before .before .before)

@@ -27,28 +27,31 @@ loop-holds c =
     let chosen = c .before .before .before .pre .0 in
     (halve-none (chosen .run-of .forward), at-start _ _ (few chosen))
 
--- the record in the middle is one of the run
-chosen :
-    (c : tie.After-middle Inv-loop μ-loop)
-    → let a = c .before .before .before .before .before .before .args in Selected (now (a .image)) (now (a .starts)) (a .run)
-chosen c = c .before .before .before .before .before .before .pre .0
+-- the loop, from the middle of a turn, and the call
+abbrev walk : tie.After-middle Inv-loop μ-loop → tie.At-loop Inv-loop μ-loop
+walk c = c .before .before
 
-in-run : (c : tie.After-middle Inv-loop μ-loop) → c .middle .result < c .before .before .before .before .before .before .args .run .until
-in-run c = omega (arith, c .middle .ensures, c .before .before .loop .inv .0 .ends)
+abbrev call : tie.After-middle Inv-loop μ-loop → tie.Start Inv-loop μ-loop
+call c = walk c .before .before .before .before
+
+-- the record in the middle is one of the run
+chosen : (c : tie.After-middle Inv-loop μ-loop) → let a = call c .args in Selected (now (a .image)) (now (a .starts)) (a .run)
+chosen c = call c .pre .0
+
+in-run : (c : tie.After-middle Inv-loop μ-loop) → c .middle .result < call c .args .run .until
+in-run c = omega (arith, c .middle .ensures, walk c .loop .inv .0 .ends)
 
 order :
     (c : tie.After-middle Inv-loop μ-loop)
-    → let a = c .before .before .before .before .before .before .args in
-    let which = c .before .before .before .which-of .result in
+    → let a = call c .args in
+    let which = walk c .before .which-of .result in
     Sorted (Before (now (a .image)) (now (a .starts)) which (now (a .wanted))) (Behind (now (a .image)) (now (a .starts)) which (now (a .wanted))) (a .run .from) (a .run .until)
-order c =
-    let start = c .before .before .before .before .before .before in
-    keys-sorted (start .pre .0) (start .pre .1) _ (c .before .before .before .which-of .ensures) (now (start .args .wanted))
+order c = keys-sorted (call c .pre .0) (call c .pre .1) _ (walk c .before .which-of .ensures) (now (call c .args .wanted))
 
 step :
     (c : tie.After-middle Inv-loop μ-loop) (later left : ℕ)
-    → let walk = c .before .before .loop in later ≡ walk .steps + 1 → left ≤ (walk .high - walk .low) / 2 → Left later left
-step c = let walk = c .before .before .loop in step-taken (walk .steps) (walk .low) (walk .high) (c .before .loop-test .taken) (walk .inv .1)
+    → let l = walk c .loop in later ≡ l .steps + 1 → left ≤ (l .high - l .low) / 2 → Left later left
+step c = let l = walk c .loop in step-taken (l .steps) (l .low) (l .high) (c .before .loop-test .taken) (l .inv .1)
 
 middle-requires : tie.Need-middle-requires Inv-loop μ-loop
 middle-requires c κs = search needs
@@ -68,8 +71,8 @@ cast-at-2 c = omega (arith, in-image (chosen (c .before)) _ (in-run (c .before))
 compare-at-requires : tie.Need-compare-at-requires Inv-loop μ-loop
 compare-at-requires c κs =
     let here = c .before .before in
-    let walk = here .before .before .loop in
-    (text-inside (chosen here) _ (in-run here) _, step-allowed (walk .steps) (walk .low) (walk .high) (here .before .loop-test .taken) (walk .inv .1))
+    let l = walk here .loop in
+    (text-inside (chosen here) _ (in-run here) _, step-allowed (l .steps) (l .low) (l .high) (here .before .loop-test .taken) (l .inv .1))
 
 enum-told : tie.Need-enum-told Inv-loop μ-loop
 enum-told c = search needs
@@ -77,7 +80,7 @@ enum-told c = search needs
 add-low : tie.Need-add-low Inv-loop μ-loop
 add-low c =
     let here = c .before .before .before .before .before in
-    omega (arith, few (chosen here), in-run here, here .before .before .loop .inv .0 .ends)
+    omega (arith, few (chosen here), in-run here, walk here .loop .inv .0 .ends)
 
 loop-less : tie.Need-loop-less Inv-loop μ-loop
 loop-less c = omega (arith, c .before .before .before .before .before .middle .ensures)
@@ -86,7 +89,7 @@ loop-again : tie.Need-loop-again Inv-loop μ-loop
 loop-again c =
     let told = c .before .before in
     let here = told .before .before .before in (
-      halve-up (order here) _ _ _ (here .before .before .loop .inv .0) (here .middle .ensures .0) (here .middle .ensures .1)
+      halve-up (order here) _ _ _ (walk here .loop .inv .0) (here .middle .ensures .0) (here .middle .ensures .1)
           (told-second _ _ (sym (told .compare-at .ensures .0) ∙ c .enum-told .given .1)),
       step here _ _ (told .compare-at .ensures .1) (omega (arith, here .middle .ensures)),
     )
@@ -98,12 +101,12 @@ returns : tie.Need-returns Inv-loop μ-loop
 returns c =
     let told = c .before .before in
     let here = told .before .before .before in
-    let start = here .before .before .before .before .before .before in
+    let start = call here in
     record {
       bounded = omega (arith, step here _ 0 (told .compare-at .ensures .1) (omega arith) .bounded);
       answer =
-          one-found (start .pre .0) (start .pre .1) _ (here .before .before .before .which-of .ensures) (now (start .args .wanted)) _
-          (omega (arith, here .middle .ensures, here .before .before .loop .inv .0 .starts)) (omega (arith, here .middle .ensures, in-run here)) (told-equal _ _ (sym (told .compare-at .ensures .0) ∙ c .enum-told2 .given .1));
+          one-found (start .pre .0) (start .pre .1) _ (walk here .before .which-of .ensures) (now (start .args .wanted)) _
+          (omega (arith, here .middle .ensures, walk here .loop .inv .0 .starts)) (omega (arith, here .middle .ensures, in-run here)) (told-equal _ _ (sym (told .compare-at .ensures .0) ∙ c .enum-told2 .given .1));
     }
 
 enum-told-3 : tie.Need-enum-told-3 Inv-loop μ-loop
@@ -116,7 +119,7 @@ loop-again-2 : tie.Need-loop-again-2 Inv-loop μ-loop
 loop-again-2 c =
     let told = c .before .before in
     let here = told .before .before .before in (
-      halve-down (order here) _ _ _ (here .before .before .loop .inv .0) (here .middle .ensures .0) (here .middle .ensures .1)
+      halve-down (order here) _ _ _ (walk here .loop .inv .0) (here .middle .ensures .0) (here .middle .ensures .1)
           (told-first _ _ (sym (told .compare-at .ensures .0) ∙ c .enum-told3 .given .1)),
       step here _ _ (told .compare-at .ensures .1) (omega (arith, here .middle .ensures)),
     )
@@ -124,11 +127,11 @@ loop-again-2 c =
 returns-2 : tie.Need-returns-2 Inv-loop μ-loop
 returns-2 c =
     let start = c .before .before .before .before .before in
-    let walk = c .before .loop in
+    let l = c .before .loop in
     record {
-      bounded = omega (arith, walk .inv .1 .bounded);
+      bounded = omega (arith, l .inv .1 .bounded);
       answer =
-          none-found (start .pre .0) (start .pre .1) _ (c .before .before .which-of .ensures) (now (start .args .wanted)) (walk .low) (walk .high) (walk .inv .0) (c .loop-test .left);
+          none-found (start .pre .0) (start .pre .1) _ (c .before .before .which-of .ensures) (now (start .args .wanted)) (l .low) (l .high) (l .inv .0) (c .loop-test .left);
     }
 
 pub seek-spec : {M : Type 1} → statement M

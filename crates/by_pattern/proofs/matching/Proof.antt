@@ -26,10 +26,11 @@ same-length c = search needs
 
 returns : tie.Need-returns
 returns c =
-    let part = c .before .before .before .before .before .before in
+    let told = c .before .before .before .before in
+    let part = told .before .before in
     let a = part .before .before .before .before .before .args in
     matched (a .run) (a .text) (a .form) (now (a .pattern)) (now (a .image)) (part .before .folds-case .ensures)
-    (sym (c .before .before .before .before .enum-told .given .1) ∙ part .which-of .ensures) (c .before .before .list-picked .ensures)
+    (sym (told .enum-told .given .1) ∙ part .which-of .ensures) (c .before .before .list-picked .ensures)
 
 same-length-2 : tie.Need-same-length-2
 same-length-2 c = search needs

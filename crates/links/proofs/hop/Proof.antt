@@ -30,19 +30,21 @@ mul-end c = let few = c .before .before .pre .0 .few in search needs
 element-copy-out-end : tie.Need-element-copy-out-end Inv-loop μ-loop
 element-copy-out-end c = let few = c .before .before .pre .0 .few in search needs
 
+-- the call, from a turn of the loop
+abbrev call : tie.In-loop Inv-loop μ-loop → tie.Start Inv-loop μ-loop
+call c = c .before .before .before .before .before
+
 -- where block i and the block of this turn stand, and where that block's link leads
 first-fits : (c : tie.Start Inv-loop μ-loop) → let a = c .args in getD (now (a .firsts)) (a .i) 0 + 2 * widthOf (a .family) ≤ length (now (a .image))
 first-fits c = c .pre .0 .fits (c .args .i) (c .pre .1)
 
-fits : (c : tie.In-loop Inv-loop μ-loop) → let a = c .before .before .before .before .before .args in
+fits : (c : tie.In-loop Inv-loop μ-loop) → let a = call c .args in
     getD (now (a .firsts)) (c .before .loop .j) 0 + 2 * widthOf (a .family) ≤ length (now (a .image))
-fits c = c .before .before .before .before .before .pre .0 .fits (c .before .loop .j) (c .loop-test .taken)
+fits c = call c .pre .0 .fits (c .before .loop .j) (c .loop-test .taken)
 
-link : (c : tie.In-loop Inv-loop μ-loop) → let a = c .before .before .before .before .before .args in
+link : (c : tie.In-loop Inv-loop μ-loop) → let a = call c .args in
     Link (blocksIn (now (a .image)) (a .family)) (c .before .loop .j) (getD (now (a .links)) (c .before .loop .j) 0)
-link c =
-    let start = c .before .before .before .before .before in
-    start .pre .2 (c .before .loop .j) (omega (arith, c .before .loop .inv .2 .ahead)) (omega (arith, start .pre .0 .counted))
+link c = call c .pre .2 (c .before .loop .j) (omega (arith, c .before .loop .inv .2 .ahead)) (omega (arith, call c .pre .0 .counted))
 
 cast-end : tie.Need-cast-end Inv-loop μ-loop
 cast-end c = let a = first-fits (c .before .before .before) in search needs
@@ -57,10 +59,10 @@ loop-holds : tie.Need-loop-holds Inv-loop μ-loop
 loop-holds c = let start = c .before .before .before in (c .before .width-of .ensures .0, refl, hops-start (start .pre .0) (start .args .i) (start .pre .1))
 
 mul-numbers-at-most : tie.Need-mul-numbers-at-most Inv-loop μ-loop
-mul-numbers-at-most c = let few = c .before .before .before .before .before .pre .0 .few in search needs
+mul-numbers-at-most c = let few = call c .pre .0 .few in search needs
 
 element-copy-out-numbers-at-most : tie.Need-element-copy-out-numbers-at-most Inv-loop μ-loop
-element-copy-out-numbers-at-most c = let few = c .before .before .before .before .before .pre .0 .few in search needs
+element-copy-out-numbers-at-most c = let few = call c .pre .0 .few in search needs
 
 cast-numbers-at-most : tie.Need-cast-numbers-at-most Inv-loop μ-loop
 cast-numbers-at-most c = let b = fits (c .before) in search needs
@@ -80,21 +82,21 @@ returns c =
     hops-stop (start .pre .0) (start .args .i) (start .pre .1) (walk .loop .j) (wide .width-of .result) (wide .width-of .ensures .0) (walk .loop .inv .2) (c .before .before .before .loop-test .taken) (c .before .numbers-at-most .ensures) (not-true _ (c .if1 .taken))
 
 mul-j : tie.Need-mul-j Inv-loop μ-loop
-mul-j c = let few = c .before .before .before .before .before .before .before .before .pre .0 .few in search needs
+mul-j c = let few = call (c .before .before .before) .pre .0 .few in search needs
 
 element-copy-out-j : tie.Need-element-copy-out-j Inv-loop μ-loop
-element-copy-out-j c = let few = c .before .before .before .before .before .before .before .before .pre .0 .few in search needs
+element-copy-out-j c = let few = call (c .before .before .before) .pre .0 .few in search needs
 
 cast-j : tie.Need-cast-j Inv-loop μ-loop
 cast-j c =
     let here = c .before .before .before .before in
-    let g = here .before .before .before .before .before .pre .0 in
+    let g = call here .pre .0 in
     omega (arith, link here .upto, g .counted, g .few)
 
 loop-less : tie.Need-loop-less Inv-loop μ-loop
 loop-less c =
     let here = c .before .before .before .before in
-    omega (arith, link here .upto, link here .ahead, here .before .before .before .before .before .pre .0 .counted)
+    omega (arith, link here .upto, link here .ahead, call here .pre .0 .counted)
 
 loop-again : tie.Need-loop-again Inv-loop μ-loop
 loop-again c =

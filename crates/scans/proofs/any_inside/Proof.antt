@@ -23,12 +23,24 @@ Inv-loop image starts blocks range width i₀ i =
 abbrev μ-loop : tie.MeasureT-loop
 μ-loop image starts blocks range width i₀ i = blocks .until - i
 
+-- the call, from the loop; the loop, from a turn
+abbrev call : tie.At-loop Inv-loop μ-loop → tie.Start Inv-loop μ-loop
+call c = c .before .before .before
+
+abbrev walk : tie.After-range-start Inv-loop μ-loop → tie.At-loop Inv-loop μ-loop
+walk c = c .before .before .before
+
 -- the record of this turn
-here : (c : tie.After-range-start Inv-loop μ-loop) → let a = c .before .before .before .before .before .before .args in
-    Here (a .image .now) (a .starts .now) (a .blocks) (a .range) (c .before .before .before .loop .i) (c .range-start .result) (c .before .before .before .before .width-of .result)
+here : (c : tie.After-range-start Inv-loop μ-loop) → let a = call (walk c) .args in
+    Here (a .image .now) (a .starts .now) (a .blocks) (a .range) (walk c .loop .i) (c .range-start .result) (walk c .before .width-of .result)
 here c =
-    let w = c .before .before .before .before .width-of .ensures .0 in
-    record { asked = c .before .before .before .before .before .before .pre; low = c .before .before .before .loop .inv .0; high = c .before .if1 .taken; start = c .range-start .ensures; wide = w }
+    record {
+      asked = call (walk c) .pre;
+      low = walk c .loop .inv .0;
+      high = c .before .if1 .taken;
+      start = c .range-start .ensures;
+      wide = walk c .before .width-of .ensures .0;
+    }
 
 width-of-requires : tie.Need-width-of-requires Inv-loop μ-loop
 width-of-requires c κs = search needs
@@ -37,19 +49,19 @@ loop-holds : tie.Need-loop-holds Inv-loop μ-loop
 loop-holds c = (omega arith, c .before .before .pre .selected .run-of .forward, rw (run-start (c .before .before .pre)))
 
 range-start-requires : tie.Need-range-start-requires Inv-loop μ-loop
-range-start-requires c κs = within (c .before .before .before .before .before .pre) (c .before .before .loop .inv .0) (c .if1 .taken)
+range-start-requires c κs = let w = c .before .before in within (call w .pre) (w .loop .inv .0) (c .if1 .taken)
 
 at-least-at-requires : tie.Need-at-least-at-requires Inv-loop μ-loop
 at-least-at-requires c κs = let k = comparable (here c) in (k .wide, omega (arith, k .fits))
 
 returns : tie.Need-returns Inv-loop μ-loop
-returns c = any-stop (here (c .before .before)) (c .before .at-least-at .ensures) (not-true _ (c .if2 .taken)) (c .before .before .before .before .before .loop .inv .2)
+returns c = let turn = c .before .before in any-stop (here turn) (c .before .at-least-at .ensures) (not-true _ (c .if2 .taken)) (walk turn .loop .inv .2)
 
 strictly-inside-requires : tie.Need-strictly-inside-requires Inv-loop μ-loop
 strictly-inside-requires c κs = comparable (here (c .before .before))
 
 returns-2 : tie.Need-returns-2 Inv-loop μ-loop
-returns-2 c = any-found (here (c .before .before .before .before)) (c .before .strictly-inside .ensures) (c .before .before .before .before .before .before .before .loop .inv .2) (c .if3 .taken)
+returns-2 c = let turn = c .before .before .before .before in any-found (here turn) (c .before .strictly-inside .ensures) (walk turn .loop .inv .2) (c .if3 .taken)
 
 add-i : tie.Need-add-i Inv-loop μ-loop
 add-i c = search needs
@@ -58,10 +70,12 @@ loop-less : tie.Need-loop-less Inv-loop μ-loop
 loop-less c = search needs
 
 loop-again : tie.Need-loop-again Inv-loop μ-loop
-loop-again c = (omega arith, omega arith, any-missed (here (c .before .before .before .before)) (c .before .strictly-inside .ensures) (c .before .before .before .before .before .before .before .loop .inv .2) (c .if3 .left))
+loop-again c =
+    let turn = c .before .before .before .before in
+    (omega arith, omega arith, any-missed (here turn) (c .before .strictly-inside .ensures) (walk turn .loop .inv .2) (c .if3 .left))
 
 returns-3 : tie.Need-returns-3 Inv-loop μ-loop
-returns-3 c = rw (run-end (c .before .before .before .before .before .pre) (c .before .before .loop .i) (c .if1 .left) (c .before .before .loop .inv .1)) at (c .before .before .loop .inv .2)
+returns-3 c = let w = c .before .before in rw (run-end (call w .pre) (w .loop .i) (c .if1 .left) (w .loop .inv .1)) at (w .loop .inv .2)
 
 pub any-inside-spec : {M : Type 1} → statement M
 any-inside-spec =

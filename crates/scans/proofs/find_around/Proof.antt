@@ -8,7 +8,7 @@ use denote.Ref.{now}
 use Rattle.address.specs.Address.{numbers}
 use Rattle.scans.specs.Around.{aroundIn}
 use Rattle.scans.specs.Standing.{blocksIn}
-use Rattle.scans.specs.Tests.{surroundsBy}
+use Rattle.containment.specs.Tests.{surroundsBy}
 use Rattle.scans.proofs.Walks.{blocksLeft, run-start, run-end, within, Here, comparable}
 use Rattle.scans.proofs.Turns.{passed, run-scan, Passing, at-first, none-more, at-end, after, not-after, first-found, last-found, around-missed}
 use borrow.Author.Needs.{needs}

@@ -1,10 +1,10 @@
--- `scans::keeps` meets its contract.
+-- `containment::keeps` meets its contract.
 use native.Mathlib.Omega.{arith}
 use borrow.Author.Tests.{not-true, not-false}
-use Rattle.scans.proofs.Cover.{keeps-no, keeps-first, keeps-later, positive}
+use Rattle.containment.proofs.Cover.{keeps-no, keeps-first, keeps-later, positive}
 use borrow.Author.Needs.{needs}
-use Rattle.scans.proofs.keeps.Statement.{statement}
-use Rattle.scans.proofs.keeps.Tie as tie
+use Rattle.containment.proofs.keeps.Statement.{statement}
+use Rattle.containment.proofs.keeps.Tie as tie
 
 strictly-inside-requires : tie.Need-strictly-inside-requires
 strictly-inside-requires c κs = search needs

@@ -1,9 +1,9 @@
--- `scans::covers` meets its contract, by two comparisons.
+-- `containment::covers` meets its contract, by two comparisons.
 use borrow.Author.Tests.{not-true, not-false}
-use Rattle.scans.proofs.Cover.{covers-no, covers-yes}
+use Rattle.containment.proofs.Cover.{covers-no, covers-yes}
 use borrow.Author.Needs.{needs}
-use Rattle.scans.proofs.covers.Statement.{statement}
-use Rattle.scans.proofs.covers.Tie as tie
+use Rattle.containment.proofs.covers.Statement.{statement}
+use Rattle.containment.proofs.covers.Tie as tie
 
 at-least-at-requires : tie.Need-at-least-at-requires
 at-least-at-requires c κs = search needs

@@ -1,9 +1,9 @@
--- `scans::surrounds` meets its contract: covers, and where it is to be strictly, not the other way round.
+-- `containment::surrounds` meets its contract: covers, and where it is to be strictly, not the other way round.
 use borrow.Author.Tests.{not-true, not-false}
-use Rattle.scans.proofs.Cover.{covers-from, surrounds-no, surrounds-strictly, surrounds-yes}
+use Rattle.containment.proofs.Cover.{covers-from, surrounds-no, surrounds-strictly, surrounds-yes}
 use borrow.Author.Needs.{needs}
-use Rattle.scans.proofs.surrounds.Statement.{statement}
-use Rattle.scans.proofs.surrounds.Tie as tie
+use Rattle.containment.proofs.surrounds.Statement.{statement}
+use Rattle.containment.proofs.surrounds.Tie as tie
 
 add-at-most-at : tie.Need-add-at-most-at
 add-at-most-at c = search needs

@@ -1,9 +1,9 @@
--- `scans::inside` meets its contract, by two comparisons.
+-- `containment::inside` meets its contract, by two comparisons.
 use borrow.Author.Tests.{not-true, not-false}
-use Rattle.scans.proofs.Cover.{covers-no, covers-yes}
+use Rattle.containment.proofs.Cover.{covers-no, covers-yes}
 use borrow.Author.Needs.{needs}
-use Rattle.scans.proofs.inside.Statement.{statement}
-use Rattle.scans.proofs.inside.Tie as tie
+use Rattle.containment.proofs.inside.Statement.{statement}
+use Rattle.containment.proofs.inside.Tie as tie
 
 at-most-at-requires : tie.Need-at-most-at-requires
 at-most-at-requires c κs = search needs

@@ -7,7 +7,7 @@ use borrow.Author.Tests.{eq-eqb, ne-eqb, le-leb}
 use native.Mathlib.Omega.{arith}
 use Rattle.address.specs.Ranges.{Range, covers, strictlyCovers, strictlyInside}
 use Rattle.address.proofs.Covering.{not-leb, strictly-covers}
-use Rattle.scans.specs.Tests.{surroundsBy, freeAfter, keepsFrom}
+use Rattle.containment.specs.Tests.{surroundsBy, freeAfter, keepsFrom}
 
 module _ (a b : Range) {u : Bool} (e : u ≡ leb (a .first) (b .first)) where
   pub covers-no : u ≡ false → false ≡ covers a b

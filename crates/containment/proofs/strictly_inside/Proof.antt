@@ -1,9 +1,9 @@
--- `scans::strictly_inside` meets its contract: inside, and not the other way round.
+-- `containment::strictly_inside` meets its contract: inside, and not the other way round.
 use borrow.Author.Tests.{not-true, not-false}
-use Rattle.scans.proofs.Cover.{inside-no, inside-yes}
+use Rattle.containment.proofs.Cover.{inside-no, inside-yes}
 use borrow.Author.Needs.{needs}
-use Rattle.scans.proofs.strictly_inside.Statement.{statement}
-use Rattle.scans.proofs.strictly_inside.Tie as tie
+use Rattle.containment.proofs.strictly_inside.Statement.{statement}
+use Rattle.containment.proofs.strictly_inside.Tie as tie
 
 inside-requires : tie.Need-inside-requires
 inside-requires c κs = search needs
