@@ -1,4 +1,4 @@
--- The length, then the overlaps, then the count (Finals.antt).
+-- The length, then the overlaps, then the count (Verdicts.antt).
 use borrow.Author.Needs.{needs}
 use mathlib.Core.Path.{_≡_}
 use Prim.Native.Nat.{_-_, _≤_, _<_}
