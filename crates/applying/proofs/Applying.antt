@@ -9,30 +9,34 @@ use borrow.Author.Tests.{le-ltb, ltb-true, ltb-false}
 use lib.Dec.{ltb}
 use lib.ListN.{length, getD, take, drop, length-drop, take-append-drop, drop-of-length-le}
 use lib.Seq.{slice, length-slice, take-take}
+use Rattle.registry.specs.Limits.{mostRecords, mostImage}
 use Rattle.fields.specs.Field.{Head, field, short, headOf}
 use Rattle.fields.specs.Slices.{part-slice}
 use Rattle.records.specs.Record.{Record}
 use Rattle.rows.specs.Entry.{Entry}
 use Rattle.fields.proofs.Starts.{starts-field}
+use Rattle.changes.specs.Limits.{mostChanges, mostEntries}
 use Rattle.changes.specs.Change as Changes
 use Rattle.changes.specs.Change.{keyed, changeOf, isThere, applied, done, refusedAt, later, afterApplied, changesFrom, changesOf}
 use Rattle.changes.specs.Rank.{rankOf, startsWith}
-use Rattle.changes.proofs.Ranks.{insert-at, there-at, without-at, rank-length}
+use Rattle.changes.proofs.Ranks.{insert-at, there-at, without-at}
 use Rattle.changes.proofs.Files.{later-zero, later-later, change-end, change-cut, change-step}
 use Rattle.changes.proofs.Applying.{good-step}
 use Rattle.changes.proofs.Ordered.{ordered-step}
-use Rattle.merged.specs.Held.{bytesAt, parsedFrom, entryOf, entriesAt, Recorded, Held, bareKey}
-use Rattle.applying.specs.Steps.{changeIn, Stated, ChangeAt, AppliedTo}
-use Rattle.applying.specs.declared.Change.the-variants.{Malformed}
+use Rattle.merged.specs.Held.{bytesAt, parsedFrom, entryOf, entriesAt, Recorded, Held, Merged}
+use Rattle.by_key.specs.Key.{bareKey}
+use Rattle.one_change.specs.Read.{changeIn, Stated, ChangeAt, adding}
+use Rattle.one_change.specs.declared.Change.the-variants.{Malformed}
+use Rattle.applying.specs.Steps.{AppliedTo}
 use Rattle.applying.specs.declared.Applied.the-variants.{Done, RefusedAt}
 use Rattle.merged.proofs.Known.{known, nine}
-use Rattle.merged.proofs.Keys.{keyed-is, rank-key, there-key}
-use Rattle.merged.proofs.Ranks.{count-is, there-none}
 use Rattle.merged.proofs.Rows.{entries-append, field-here}
+use Rattle.by_key.proofs.Keys.{keyed-is, rank-key, there-key}
+use Rattle.by_key.proofs.Ranks.{rank-few, there-none}
 
 -- the record of a change by its start
 pub record-start : (image changes : List ℕ) (start end : ℕ) → start ≤ end → end ≤ length changes → Recorded (slice start end changes)
-    → bytesAt image changes (262144 + start) ≡ slice start end changes
+    → bytesAt image changes (mostImage + start) ≡ slice start end changes
 unfolding bytesAt
 record-start image changes start end h l k =
     let s : List ℕ = slice start end changes in
@@ -43,8 +47,8 @@ record-start image changes start end h l k =
     ap (λ (t : List ℕ). t ++ drop (end - start) (drop start changes)) (sym p) ∙ take-append-drop (end - start) (drop start changes) in
     let e = rw j at (x .followed (drop (end - start) (drop start changes))) in
     let m : 3 + length (k .contents) ≡ end - start = omega (arith, x .long, length-slice start end changes l) in
-    let q : 262144 + start - 262144 ≡ start = omega arith in
-    rw (le-ltb (262144 + start) 262144 (omega arith), q)
+    let q : mostImage + start - mostImage ≡ start = omega arith in
+    rw (le-ltb (mostImage + start) mostImage (omega arith), q)
     (field-here changes start (k .tag) (k .contents) _ (omega arith) e ∙ rw m p)
 
 map-take : {A B : Type 0} (f : A → B) (i : ℕ) (l : List A) → map f (take i l) ≡ take i (map f l)
@@ -57,12 +61,9 @@ map-drop f zero l = refl
 map-drop f (suc i) [] = refl
 map-drop f (suc i) (x ∷ l) = map-drop f i l
 
-module _ (image changes index : List ℕ) (n : ℕ) (k : n ≤ length index) (h : Held image changes (take n index)) where
+module _ {image changes index : List ℕ} {n : ℕ} (m : Merged image changes index n) where
   abbrev es : List Entry
   es = entriesAt image changes (take n index)
-
-  rank-few : (r : Record) → rankOf r es ≤ n
-  rank-few r = omega (arith, rank-length r es, count-is image changes index n k)
 
   front-is : (at : ℕ) → at ≤ n → entriesAt image changes (take at index) ≡ take at es
   front-is at l =
@@ -90,11 +91,11 @@ module _ (image changes index : List ℕ) (n : ℕ) (k : n ≤ length index) (h 
         let u : at ≡ rankOf (parsedFrom s) es = a ∙ ap (λ (r : Record). rankOf r es) key-is ∙ rank-key (parsedFrom s) es in
         let v : entriesAt image changes after ≡ take at es ++ entryOf s ∷ drop at es =
         ap (entriesAt image changes) g ∙ entries-append image changes (take at index) (stands-at ∷ drop at (take n index))
-        ∙ rw (front-is at (rw u (rank-few (parsedFrom s))), back-is at, b) in
+        ∙ rw (front-is at (rw u (rank-few m (parsedFrom s))), back-is at, b) in
         rw (there-is t y ∙ z) (ap some (insert-at (entryOf s) es ∙ rw (← u) (sym v)))
 
     pub add-start : (at : ℕ) → at ≡ rankOf (keyed tag key) es → at ≤ n
-    add-start at a = omega (arith, a, rank-few (keyed tag key))
+    add-start at a = omega (arith, a, rank-few m (keyed tag key))
 
   -- a removal
   module _ (r : Record) where
@@ -115,39 +116,42 @@ module _ (image changes index : List ℕ) (n : ℕ) (k : n ≤ length index) (h 
         where
           by-room : (v : Bool) → ltb at n ≡ v → at < n
           by-room true p = ltb-true at n p
-          by-room false p = absurd (false≢true (there-none image changes index n k h r at a (ltb-false at n p) ∙ there))
+          by-room false p = absurd (false≢true (there-none m r at a (ltb-false at n p) ∙ there))
 
       pub remove-here : (after : List ℕ) → after ≡ take at index ++ drop (at + 1) (take n index) → applied (Changes.remove r) es ≡ some (entriesAt image changes after)
       remove-here after g =
-          let w : startsWith r (drop (rankOf r es) es) ≡ true = sym (there-at r es (h .ordered)) ∙ there in
+          let w : startsWith r (drop (rankOf r es) es) ≡ true = sym (there-at r es (m .held .ordered)) ∙ there in
           let q : at + 1 ≡ suc at = omega arith in
           let v : entriesAt image changes after ≡ take at es ++ drop (suc at) es =
           ap (entriesAt image changes) g ∙ entries-append image changes (take at index) (drop (at + 1) (take n index))
           ∙ rw (front-is at (omega (arith, remove-start)), back-is (at + 1), q) in
-          rw there (ap some (without-at r es (h .ordered) w ∙ rw (← a) (sym v)))
+          rw there (ap some (without-at r es (m .held .ordered) w ∙ rw (← a) (sym v)))
 
 -- The changes one after another
 
 -- the changes before `at` are applied; every addition took at least 12 bytes
 pub record Reached (image changes : List ℕ) (es : List Entry) (index : List ℕ) (n at : ℕ) : Type 0 where
   pub inside : at ≤ length changes
-  pub full : length index ≡ 9600
+  pub full : length index ≡ mostEntries
   pub held : Held image changes (take n index)
-  pub few : 12 * n ≤ 49152 + at
+  pub few : 12 * n ≤ 12 * mostRecords + at
   pub rest : later at (changesFrom (length changes) (entriesAt image changes (take n index)) (drop at changes)) ≡ changesOf es changes
 
-pub reach-start : (image changes index : List ℕ) (n : ℕ) → length index ≡ 9600 → n ≤ 4096 → Held image changes (take n index)
+pub reach-start : (image changes index : List ℕ) (n : ℕ) → Merged image changes index n → n ≤ mostRecords
     → Reached image changes (entriesAt image changes (take n index)) index n 0
 unfolding changesOf
-reach-start image changes index n f l h =
-    record { inside = omega arith; full = f; held = h; few = omega arith; rest = later-zero _ }
+reach-start image changes index n m l =
+    record { inside = omega arith; full = m .full; held = m .held; few = omega arith; rest = later-zero _ }
 
-module _ (image changes : List ℕ) (es₀ : List Entry) (index : List ℕ) (n at : ℕ) (m : Reached image changes es₀ index n at) (short-enough : length changes ≤ 65536) where
+module _ {image changes : List ℕ} {es₀ : List Entry} {index : List ℕ} {n at : ℕ} (m : Reached image changes es₀ index n at) (short-enough : length changes ≤ mostChanges) where
   abbrev now-held : List Entry
   now-held = entriesAt image changes (take n index)
 
-  pub room : n < 9600
+  pub room : n < mostEntries
   room = omega (arith, m .few, m .inside)
+
+  pub merged : Merged image changes index n
+  merged = record { full = m .full; few = omega (arith, room); held = m .held }
 
   refuses : changesFrom (length changes) now-held (drop at changes) ≡ refusedAt 0 → changesOf es₀ changes ≡ refusedAt at
   refuses e =
@@ -171,7 +175,7 @@ module _ (image changes : List ℕ) (es₀ : List Entry) (index : List ℕ) (n a
       by-head (field tag contents rest) y z =
           change-step (length changes) now-held (drop at changes) tag contents rest y long ∙ rw z
 
-  module _ (start end : ℕ) (change : Changes.Change) (x : Stated changes at start end change) where
+  module _ {start end : ℕ} {change : Changes.Change} (x : Stated changes at start end change) where
     step : changesFrom (length changes) now-held (drop at changes)
         ≡ afterApplied (applied change now-held) (3 + length (slice start end changes)) (λ next. changesFrom (length changes) next (drop end changes))
     step =
@@ -181,8 +185,8 @@ module _ (image changes : List ℕ) (es₀ : List Entry) (index : List ℕ) (n a
     pub reach-refused : applied change now-held ≡ none → AppliedTo image changes es₀ index (RefusedAt at)
     reach-refused e = (refuses (step ∙ rw e), m .inside)
 
-    pub reach-next : (index′ : List ℕ) (n′ : ℕ) → length index′ ≡ 9600 → applied change now-held ≡ some (entriesAt image changes (take n′ index′))
-        → 12 * n′ ≤ 49152 + end → Reached image changes es₀ index′ n′ end
+    pub reach-next : (index′ : List ℕ) (n′ : ℕ) → length index′ ≡ mostEntries → applied change now-held ≡ some (entriesAt image changes (take n′ index′))
+        → 12 * n′ ≤ 12 * mostRecords + end → Reached image changes es₀ index′ n′ end
     reach-next index′ n′ f e g =
         let a : applied (changeOf (x .tag) (slice start end changes)) now-held ≡ some (entriesAt image changes (take n′ index′)) = ap (λ (c : Changes.Change). applied c now-held) (x .is) ∙ e in
         let q : changesFrom (length changes) now-held (drop at changes) ≡ later (3 + length (slice start end changes)) (changesFrom (length changes) (entriesAt image changes (take n′ index′)) (drop end changes)) = step ∙ rw e in
@@ -201,8 +205,5 @@ module _ (image changes : List ℕ) (es₀ : List Entry) (index : List ℕ) (n a
               ∙ ap (later at) (sym q) ∙ m .rest;
         }
 
-    pub forward : at < end
-    forward = omega (arith, x .after, x .forward)
-
-  pub added-long : (start end : ℕ) → Stated changes at start end (Changes.add (entryOf (slice start end changes))) → Recorded (slice start end changes) → 12 * (n + 1) ≤ 49152 + end
-  added-long start end x r = omega (arith, m .few, nine (slice start end changes) r, length-slice start end changes (x .within), x .after, x .forward)
+  pub added-long : {start end : ℕ} → Stated changes at start end (adding changes start end) → Recorded (slice start end changes) → 12 * (n + 1) ≤ 12 * mostRecords + end
+  added-long {start} {end} x r = omega (arith, m .few, nine (slice start end changes) r, length-slice start end changes (x .within), x .after, x .forward)

@@ -1,122 +1,39 @@
-// The changes of a file, read and applied one after another to the index of the records.
+// The changes of a file applied one after another to the index of the records.
 ghost use mathlib.Core.Path.{_≡_};
-ghost use mathlib.Core.Bool.{true, cond};
-ghost use mathlib.Core.Option.{none, some};
+ghost use mathlib.Core.Bool.{true};
 ghost use Prim.Native.Nat.{_+_, _-_, _≤_, _<_};
 ghost use lib.ListN.{length, getD, take};
 ghost use lib.Seq.{slice};
-ghost use Rattle.registry.specs.Tags.{entity, ipv4Network};
-ghost use Rattle.registry.specs.Limits.{mostImage, mostRecords};
-ghost use Rattle.changes.specs.Change.{add as «add_of», remove as «remove_of», keyed, goodKey, applied};
-ghost use Rattle.merged.specs.Held.{entryOf, entriesAt, Recorded, Held, Key};
-ghost use Rattle.applying.specs.Steps.{Addition, Removal, ChangeAt, AppliedTo};
-use fields::Field;
-use fields::step_at;
-use image::Verdict;
-use image::index_from;
+ghost use Rattle.registry.specs.Limits.{mostRecords};
+ghost use Rattle.changes.specs.Limits.{mostChanges, mostEntries};
+ghost use Rattle.merged.specs.Held.{entriesAt, Recorded, Merged};
+ghost use Rattle.by_key.specs.Key.{Key};
+ghost use Rattle.one_change.specs.Read.{adding, removing};
+ghost use Rattle.applying.specs.Steps.{Step, AppliedTo};
+use by_key::is_there;
+use by_key::key_of;
+use by_key::rank;
+use changes::PerEntry;
 use merged::insert_at;
-use merged::is_there;
-use merged::key_of;
-use merged::rank;
 use merged::remove_at;
-use registry::AS_BLOCK;
-use registry::ENTITY;
-use registry::IPV4_NETWORK;
+use one_change::Change;
+use one_change::change_at;
 use registry::MOST_IMAGE;
 use registry::PerRecord;
-use registry::width_of;
-use words::numbers_at_most;
-
-// Whether this is a whole record without defects 3, 4 and 5, and nothing after it: one record without a defect. The pass over it writes to the
-// starts, which nobody reads.
-fn good_record(r: &[u8], starts: &mut PerRecord) -> bool
-    requires { ⌜ (length (now r) ≤ mostImage) × (length (now starts) ≡ mostRecords) ⌝ }
-    ensures { λ b. ⌜ Addition (now (r .entry)) b × (length (now (starts .exit)) ≡ mostRecords) ⌝ }
-{
-    match index_from(r, 0, starts) {
-        Verdict::Sound(count) => count == 1,
-        Verdict::Defective(_, _) => false,
-    }
-}
-
-// Whether the key is of the tag's form: range, name or handle.
-fn good_key(tag: u8, key: &[u8]) -> bool
-    requires { ⌜ (ipv4Network ≤ tag) × (tag ≤ entity) ⌝ }
-    ensures { λ b. ⌜ b ≡ goodKey tag (now (key .entry)) ⌝ }
-{
-    if tag <= AS_BLOCK {
-        let width = width_of(tag);
-        if key.len() != 2 * width {
-            return false;
-        }
-        return numbers_at_most(key, 0, key, width, width);
-    }
-    if tag == ENTITY {
-        return texts::text_ok(key, 0x21);
-    }
-    texts::host_ok(key)
-}
-
-// Whether this is a record tag's byte and then the bare key of one to remove.
-pub fn good_removal(r: &[u8]) -> bool
-    ensures { λ b. ⌜ Removal (now (r .entry)) b ⌝ }
-{
-    if r.len() == 0 {
-        return false;
-    }
-    let tag = r[0];
-    if tag < IPV4_NETWORK {
-        return false;
-    }
-    if ENTITY < tag {
-        return false;
-    }
-    good_key(tag, &r[1..])
-}
-
-// A change, whose contents go from start up to end.
-enum Change {
-    Add { start: usize, end: usize },
-    Remove { start: usize, end: usize },
-    Malformed,
-}
-
-fn change_at(changes: &[u8], at: usize, starts: &mut PerRecord) -> Change
-    requires { ⌜ (at ≤ length (now changes)) × (length (now changes) ≤ 65536) × (length (now starts) ≡ mostRecords) ⌝ }
-    ensures { λ r. ⌜ ChangeAt (now (changes .entry)) at r × (length (now (starts .exit)) ≡ mostRecords) ⌝ }
-{
-    let Field::Whole { tag, start, end } = step_at(changes, at) else {
-        return Change::Malformed;
-    };
-    if tag == 0x30 {
-        if good_record(&changes[start..end], starts) {
-            return Change::Add { start, end };
-        }
-        return Change::Malformed;
-    }
-    if tag == 0x31 {
-        if good_removal(&changes[start..end]) {
-            return Change::Remove { start, end };
-        }
-        return Change::Malformed;
-    }
-    Change::Malformed
-}
 
 // The record at a position of the change file added; false if its key is there already.
 fn add<'a>(
     image: &'a [u8],
     changes: &'a [u8],
-    index: &mut [u32; 9600],
+    index: &mut PerEntry,
     n: usize,
     start: usize,
     end: usize,
 ) -> bool
-    requires { ⌜ (length (now index) ≡ 9600) × (n < 9600) × (start ≤ end) × (end ≤ length (now changes)) × (length (now changes) ≤ 65536)
-        × Held (now image) (now changes) (take n (now index)) × Recorded (slice start end (now changes)) ⌝ }
-    ensures { λ ok. ⌜ (applied («add_of» (entryOf (slice start end (now (changes .entry))))) (entriesAt (now (image .entry)) (now (changes .entry)) (take n (now (index .entry))))
-        ≡ cond ok (some (entriesAt (now (image .entry)) (now (changes .entry)) (take (n + 1) (now (index .exit))))) none)
-        × (length (now (index .exit)) ≡ 9600) ⌝ }
+    requires { ⌜ Merged (now image) (now changes) (now index) n × (n < mostEntries) × (start ≤ end) × (end ≤ length (now changes))
+        × (length (now changes) ≤ mostChanges) × Recorded (slice start end (now changes)) ⌝ }
+    ensures { λ ok. ⌜ Step (adding (now (changes .entry)) start end) (now (image .entry)) (now (changes .entry))
+        (now (index .entry)) (now (index .exit)) n (n + 1) ok ⌝ }
 {
     let r = &changes[start..end];
     let tag = r[0];
@@ -133,16 +50,16 @@ fn add<'a>(
 fn remove<'a>(
     image: &'a [u8],
     changes: &'a [u8],
-    index: &mut [u32; 9600],
+    index: &mut PerEntry,
     n: usize,
     start: usize,
     end: usize,
 ) -> bool
-    requires { ⌜ (length (now index) ≡ 9600) × (n ≤ 9600) × (start < end) × (end ≤ length (now changes))
-        × Held (now image) (now changes) (take n (now index)) × Key (getD (now changes) start 0) (slice (start + 1) end (now changes)) ⌝ }
-    ensures { λ ok. ⌜ (applied («remove_of» (keyed (getD (now (changes .entry)) start 0) (slice (start + 1) end (now (changes .entry))))) (entriesAt (now (image .entry)) (now (changes .entry)) (take n (now (index .entry))))
-        ≡ cond ok (some (entriesAt (now (image .entry)) (now (changes .entry)) (take (n - 1) (now (index .exit))))) none)
-        × (ok ≡ true → 0 < n) × (length (now (index .exit)) ≡ 9600) ⌝ }
+    requires { ⌜ Merged (now image) (now changes) (now index) n × (start < end) × (end ≤ length (now changes))
+        × Key (getD (now changes) start 0) (slice (start + 1) end (now changes)) ⌝ }
+    ensures step { λ ok. ⌜ Step (removing (now (changes .entry)) start end) (now (image .entry)) (now (changes .entry))
+        (now (index .entry)) (now (index .exit)) n (n - 1) ok ⌝ }
+    ensures some { λ ok. ⌜ (ok ≡ true → 0 < n) ⌝ }
 {
     let tag = changes[start];
     let from = start + 1;
@@ -164,15 +81,15 @@ pub enum Applied {
 pub fn apply<'a>(
     image: &'a [u8],
     changes: &'a [u8],
-    index: &mut [u32; 9600],
+    index: &mut PerEntry,
     count: usize,
     starts: &mut PerRecord,
 ) -> Applied
-    requires { ⌜ (length (now index) ≡ 9600) × (count ≤ mostRecords) × (length (now changes) ≤ 65536) × Held (now image) (now changes) (take count (now index))
+    requires { ⌜ Merged (now image) (now changes) (now index) count × (count ≤ mostRecords) × (length (now changes) ≤ mostChanges)
         × (length (now starts) ≡ mostRecords) ⌝ }
-    ensures { λ r. ⌜ AppliedTo (now (image .entry)) (now (changes .entry))
-        (entriesAt (now (image .entry)) (now (changes .entry)) (take count (now (index .entry)))) (now (index .exit)) r
-        × (length (now (index .exit)) ≡ 9600) ⌝ }
+    ensures applied { λ r. ⌜ AppliedTo (now (image .entry)) (now (changes .entry))
+        (entriesAt (now (image .entry)) (now (changes .entry)) (take count (now (index .entry)))) (now (index .exit)) r ⌝ }
+    ensures full { λ r. ⌜ length (now (index .exit)) ≡ mostEntries ⌝ }
 {
     let mut n = count;
     let mut at: usize = 0;

@@ -20,7 +20,7 @@ use Rattle.image.specs.Part.{contentsOf}
 use Rattle.image.specs.Index.{Selected}
 use Rattle.image.specs.declared.Run.{Run}
 use Rattle.registry.specs.declared.Part.{Part}
-use Rattle.entries.proofs.Halves.{Sorted, by-neighbours, Halved, fewer}
+use Rattle.halves.proofs.Halves.{Sorted, by-neighbours, Halved, fewer}
 use Rattle.entries.proofs.Tags.{record-follows}
 use Rattle.search.specs.Search.{whichOf, fieldOf, isCalled}
 use Rattle.search.specs.Picks.{textAt, calledIn}

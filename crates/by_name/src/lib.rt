@@ -9,6 +9,7 @@ ghost use Rattle.image.specs.Index.{Selected};
 ghost use Rattle.output.specs.Listing.{Reported};
 ghost use Rattle.search.specs.Picks.{textAt, calledIn};
 ghost use Rattle.by_name.specs.Seeking.{SortedBy, SoughtIn};
+use halves::middle;
 use image::Run;
 use octets::Ordering;
 use output::Found;
@@ -46,7 +47,7 @@ fn seek(image: &[u8], starts: &PerRecord, run: Run, text: Text, wanted: &[u8]) -
     let mut high = run.until;
     let mut steps: u32 = 0;
     while low < high {
-        let i = entries::middle(low, high);
+        let i = middle(low, high);
         let at = starts[i as usize] as usize;
         match compare_at(image, at, which, wanted, &mut steps) {
             Ordering::Less => low = i + 1,

@@ -13,6 +13,7 @@ use Rattle.rows.specs.Entry.{Entry, entriesOf, parsedOf, rowOf}
 use Rattle.rows.specs.Good.{AllGood}
 use Rattle.image.proofs.Soundness.{opens}
 use Rattle.rows.proofs.Images.{start-of, entries-good, entries-are, records-are, entries-again}
+use Rattle.changes.specs.Limits.{mostChanges}
 use Rattle.changes.specs.Change.{Changed, done, refusedAt, later, changesFrom, changesOf}
 use Rattle.changes.specs.Fold.{badChange, noRoom, fits, finished, afterChanges, afterImage, foldOf, Folds, Accepting, Joining, Unchanged}
 use Rattle.changes.proofs.Files.{joined}
@@ -23,11 +24,11 @@ module _ (image : List ℕ) (records : List Record) (e : imageOf image ≡ sound
   abbrev pub before : List Entry
   before = entriesOf records (drop 4 image)
 
-  within-limit : (changes : List ℕ) (room : ℕ) → length changes ≤ 65536 → foldOf image changes room ≡ afterChanges (take 4 image) room (changesOf before changes)
+  within-limit : (changes : List ℕ) (room : ℕ) → length changes ≤ mostChanges → foldOf image changes room ≡ afterChanges (take 4 image) room (changesOf before changes)
   unfolding foldOf
   within-limit changes room h =
       ap (afterImage image changes room) e
-      ∙ ap (λ (t : Bool). cond t (afterChanges (take 4 image) room (changesOf before changes)) (badChange 0)) (le-leb (length changes) 65536 h)
+      ∙ ap (λ (t : Bool). cond t (afterChanges (take 4 image) room (changesOf before changes)) (badChange 0)) (le-leb (length changes) mostChanges h)
 
   pub changed-good : (changes : List ℕ) (after : List Entry) → changesOf before changes ≡ done after → AllGood after
   unfolding changesOf
@@ -63,10 +64,10 @@ accepting image changes room e = by-image (imageOf image) refl e
 
     by-image : (i : Image) → imageOf image ≡ i → afterImage image changes room i .reason ≡ 0 → Folds image changes (afterImage image changes room i .written)
     by-image (defective d p) x k = absurd (omega arith)
-    by-image (sound records) x k = by-length records x (leb (length changes) 65536) k
+    by-image (sound records) x k = by-length records x (leb (length changes) mostChanges) k
 
 -- the second file applied to what the first wrote
-second-fold : (image first out second : List ℕ) (room : ℕ) (f : Folds image first out) → length second ≤ 65536
+second-fold : (image first out second : List ℕ) (room : ℕ) (f : Folds image first out) → length second ≤ mostChanges
     → foldOf out second room ≡ afterChanges (take 4 image) room (changesOf (f .after) second)
 second-fold image first out second room f h =
     within-limit out (parsedOf (f .after)) (f .accepted) second room h

@@ -17,6 +17,7 @@ use Rattle.rows.proofs.Rows.{parsed-entries}
 use Rattle.image.proofs.Soundness.{opens}
 use Rattle.records.proofs.Order.{follows-lower, follows-same}
 use Rattle.rows.proofs.Ordering.{all-after-trans, sound-ordered, OnlyDefects, ordered-image}
+use Rattle.changes.specs.Limits.{mostChanges}
 use Rattle.changes.specs.Change.{sameKey, changeOf, isThere, insert, applied, Changed, done, refusedAt, changesOf}
 use Rattle.changes.specs.Fold.{badChange, noRoom, fits, finished, afterChanges, afterImage, foldOf, FinalDefects}
 use Rattle.changes.proofs.Applying.{kept-by-all, Application, adding, removing, application}
@@ -137,4 +138,4 @@ final-defects image changes room e = by-image (imageOf image) refl e
 
     by-image : (i : Image) → imageOf image ≡ i → afterImage image changes room i .reason ≡ 12 → contains (afterImage image changes room i .defect) (1 ∷ 3 ∷ 7 ∷ []) ≡ true
     by-image (defective d p) x k = absurd (omega arith)
-    by-image (sound records) x k = by-length records x (leb (length changes) 65536) k
+    by-image (sound records) x k = by-length records x (leb (length changes) mostChanges) k

@@ -9,6 +9,7 @@ use Rattle.octets.specs.Lists.{contains}
 use Rattle.records.specs.Record.{Record}
 use Rattle.image.specs.Image.{Image, sound, defective, imageOf}
 use Rattle.rows.specs.Entry.{Entry, entriesOf, parsedOf, rowOf}
+use Rattle.changes.specs.Limits.{mostChanges}
 use Rattle.changes.specs.Change.{Changed, done, refusedAt, changesOf}
 
 -- What the call answers, and the bytes that it writes: none unless reason is 0. Count is their number, or under reason 9 the number needed.
@@ -48,7 +49,7 @@ afterChanges start room (done es) = finished (start ++ rowOf es) room (imageOf (
 abbrev pub afterImage : List ℕ → List ℕ → ℕ → Image → Folding
 afterImage image changes room (defective defect place) = badImage 2 defect place
 afterImage image changes room (sound records) =
-    cond (leb (length changes) 65536) (afterChanges (take 4 image) room (changesOf (entriesOf records (drop 4 image)) changes)) (badChange 0)
+    cond (leb (length changes) mostChanges) (afterChanges (take 4 image) room (changesOf (entriesOf records (drop 4 image)) changes)) (badChange 0)
 
 unfoldable pub foldOf : List ℕ → List ℕ → ℕ → Folding
 foldOf image changes room = afterImage image changes room (imageOf image)
@@ -72,7 +73,7 @@ abbrev pub Joining : Type 0
 Joining = (image first second : List ℕ) (middle room : ℕ)
     → foldOf image first middle .reason ≡ 0
     → foldOf (foldOf image first middle .written) second room .reason ≡ 0
-    → length (first ++ second) ≤ 65536
+    → length (first ++ second) ≤ mostChanges
     → foldOf image (first ++ second) room ≡ foldOf (foldOf image first middle .written) second room
 
 -- an empty change file gives the image back

@@ -19,7 +19,7 @@ use Rattle.image.specs.declared.Verdict.the-variants.{Sound}
 use Rattle.image.proofs.Sound.{Later, done, next, records-later}
 use Rattle.image.proofs.Soundness.{is-sound}
 use Rattle.entries.proofs.Standing.{standing-of}
-use Rattle.entries.proofs.Halves.{Sorted, by-neighbours, Halved}
+use Rattle.halves.proofs.Halves.{Sorted, by-neighbours, Halved}
 
 is-true : (b : Bool) → T b → b ≡ true
 is-true true t = refl

@@ -1,12 +1,13 @@
 // The records of a sound image by their tags and numbers: those with a tag, and the range, the handle or the name of one.
 ghost use mathlib.Core.Path.{_≡_};
-ghost use Prim.Native.Nat.{_+_, _-_, _/_, _≤_, _<_};
+ghost use Prim.Native.Nat.{_≤_};
 ghost use Rattle.registry.specs.Tags.{entity};
 ghost use Rattle.image.specs.Image.{imageOf};
 ghost use Rattle.image.specs.Part.{excerptOf, PartFrom};
 ghost use Rattle.image.specs.Entries.{contentsSpan, spanOf, PartSpan};
 ghost use Rattle.image.specs.Index.{Indexed, FirstFrom, RunOf};
 use fields::Field;
+use halves::middle;
 use image::Run;
 use image::Verdict;
 use image::index;
@@ -18,14 +19,6 @@ use records::range_span;
 use registry::MOST_RECORDS;
 use registry::Part;
 use registry::PerRecord;
-
-// The middle of what is left to a search by halves: at most half of it lies before, and at most half behind.
-pub fn middle(low: u32, high: u32) -> u32
-    requires { ⌜ low < high ⌝ }
-    ensures { λ r. ⌜ (low ≤ r) × (r < high) × (r - low ≤ (high - low) / 2) × (high - (r + 1) ≤ (high - low) / 2) ⌝ }
-{
-    low + (high - low) / 2
-}
 
 // The number of the first record of a sound image whose tag is not below this one; their number, if there is none. By halves, since the
 // records are sorted by tag.

@@ -11,8 +11,8 @@ use Rattle.image.specs.declared.Verdict.{Verdict}
 use Rattle.image.specs.declared.Verdict.the-variants.{Defective}
 use Rattle.image.proofs.Soundness.{is-defective}
 use Rattle.changes.specs.Change.{Changed, done, refusedAt}
-use Rattle.merged.specs.Held.{bytesAt, entriesAt}
-use Rattle.merged.proofs.Ranks.{count-is, entry-at}
+use Rattle.merged.specs.Held.{bytesAt, entriesAt, Merged}
+use Rattle.merged.proofs.Numbered.{count-is, entry-at}
 use Rattle.final_list.specs.Final.{changedIn, bytesOfFirst, recordAfter, recordIn, finalRecord}
 
 module _ (image changes : List ℕ) (n : ℕ) where
@@ -28,11 +28,11 @@ module _ (image changes : List ℕ) (n : ℕ) where
     pub record-refused : (offset : ℕ) → changedIn image changes (recordsOf (imageOf image)) ≡ refusedAt offset → [] ≡ finalRecord image changes n
     record-refused offset e = listed (refusedAt offset) e
 
-    module _ (index : List ℕ) (count : ℕ) (k : count ≤ length index) (e : changedIn image changes (recordsOf (imageOf image)) ≡ done (entriesAt image changes (take count index))) where
+    module _ {index : List ℕ} {count : ℕ} (m : Merged image changes index count) (e : changedIn image changes (recordsOf (imageOf image)) ≡ done (entriesAt image changes (take count index))) where
       pub record-none : count ≤ n → [] ≡ finalRecord image changes n
       record-none l =
-          let z = drop-of-length-le (entriesAt image changes (take count index)) {i = n} (omega (arith, count-is image changes index count k)) in
+          let z = drop-of-length-le (entriesAt image changes (take count index)) {i = n} (omega (arith, count-is m)) in
           sym (ap bytesOfFirst z) ∙ listed _ e
 
       pub record-found : n < count → bytesAt image changes (getD index n 0) ≡ finalRecord image changes n
-      record-found l = sym (ap bytesOfFirst (entry-at image changes index count k n l)) ∙ listed _ e
+      record-found l = sym (ap bytesOfFirst (entry-at m n l)) ∙ listed _ e

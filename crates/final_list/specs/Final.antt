@@ -9,6 +9,7 @@ use Rattle.records.specs.Record.{Record}
 use Rattle.image.specs.Image.{Image, sound, defective, imageOf}
 use Rattle.image.specs.Part.{recordsOf}
 use Rattle.rows.specs.Entry.{Entry, entriesOf}
+use Rattle.changes.specs.Limits.{mostChanges, mostEntries}
 use Rattle.changes.specs.Change.{Changed, done, refusedAt, changesOf}
 use Rattle.merged.specs.Held.{entriesAt, Held}
 use Rattle.applying.specs.declared.Applied.{Applied}
@@ -16,14 +17,14 @@ use Rattle.applying.specs.declared.Applied.the-variants.{Done, RefusedAt}
 
 -- the changes of a file applied to the records of an image
 abbrev pub changedIn : List ℕ → List ℕ → List Record → Changed
-changedIn image changes records = cond (leb (length changes) 65536) (changesOf (entriesOf records (drop 4 image)) changes) (refusedAt 0)
+changedIn image changes records = cond (leb (length changes) mostChanges) (changesOf (entriesOf records (drop 4 image)) changes) (refusedAt 0)
 
 -- as the code tells it, by the index afterwards
 abbrev pub ChangedTo : List ℕ → List ℕ → List ℕ → Applied → Type 0
 ChangedTo image changes index (Done n) =
-    (changedIn image changes (recordsOf (imageOf image)) ≡ done (entriesAt image changes (take n index))) × Held image changes (take n index) × (n ≤ 9600)
-    × (length changes ≤ 65536)
-ChangedTo image changes index (RefusedAt offset) = (changedIn image changes (recordsOf (imageOf image)) ≡ refusedAt offset) × (offset ≤ 65536)
+    (changedIn image changes (recordsOf (imageOf image)) ≡ done (entriesAt image changes (take n index))) × Held image changes (take n index) × (n ≤ mostEntries)
+    × (length changes ≤ mostChanges)
+ChangedTo image changes index (RefusedAt offset) = (changedIn image changes (recordsOf (imageOf image)) ≡ refusedAt offset) × (offset ≤ mostChanges)
 
 abbrev pub bytesOfFirst : List Entry → List ℕ
 bytesOfFirst [] = []

@@ -1,10 +1,15 @@
 // The final list of a change file by the index of its starts; a record of it by its number, for the program.
 ghost use mathlib.Core.Path.{_≡_};
+ghost use mathlib.Core.List.{[]};
 ghost use lib.ListN.{length};
 ghost use Rattle.image.specs.Index.{Indexed};
+ghost use Rattle.changes.specs.Limits.{mostEntries};
 ghost use Rattle.final_list.specs.Final.{ChangedTo, finalRecord};
 use applying::Applied;
 use applying::apply;
+use changes::MOST_CHANGES;
+use changes::MOST_ENTRIES;
+use changes::PerEntry;
 use image::Verdict;
 use image::index;
 use merged::note_starts;
@@ -18,16 +23,24 @@ pub fn changed<'a>(
     changes: &'a [u8],
     starts: &mut PerRecord,
     count: usize,
-    index: &mut [u32; 9600],
+    index: &mut PerEntry,
 ) -> Applied
-    requires { ⌜ Indexed (now image) count (now starts) × (length (now index) ≡ 9600) ⌝ }
-    ensures { λ r. ⌜ ChangedTo (now (image .entry)) (now (changes .entry)) (now (index .exit)) r × (length (now (index .exit)) ≡ 9600) ⌝ }
+    requires { ⌜ Indexed (now image) count (now starts) × (length (now index) ≡ mostEntries) ⌝ }
+    ensures changed { λ r. ⌜ ChangedTo (now (image .entry)) (now (changes .entry)) (now (index .exit)) r ⌝ }
+    ensures full { λ r. ⌜ length (now (index .exit)) ≡ mostEntries ⌝ }
 {
-    if 65536 < changes.len() {
+    if MOST_CHANGES < changes.len() {
         return Applied::RefusedAt(0);
     }
     note_starts(starts, count, index);
     apply(image, changes, index, count, starts)
+}
+
+// The bytes where there is no record: none.
+fn no_record(image: &[u8]) -> &[u8]
+    ensures { λ r. ⌜ now r ≡ [] ⌝ }
+{
+    &image[0..0]
 }
 
 // A record of the final list by its number: its bytes, none where there is no such record. The image is sound, and its index is handed in.
@@ -41,12 +54,12 @@ fn record_after<'a>(
     requires { ⌜ Indexed (now image) count (now starts) ⌝ }
     ensures { λ r. ⌜ now r ≡ finalRecord (now (image .entry)) (now (changes .entry)) number ⌝ }
 {
-    let mut index = [0u32; 9600];
+    let mut index = [0u32; MOST_ENTRIES];
     match changed(image, changes, starts, count, &mut index) {
-        Applied::RefusedAt(_) => &image[0..0],
+        Applied::RefusedAt(_) => no_record(image),
         Applied::Done(n) => {
             if n <= number {
-                return &image[0..0];
+                return no_record(image);
             }
             record_at(image, changes, index[number])
         }
@@ -59,7 +72,7 @@ pub fn final_record<'a>(image: &'a [u8], changes: &'a [u8], number: usize) -> &'
 {
     let mut starts = [0u32; MOST_RECORDS];
     match index(image, &mut starts) {
-        Verdict::Defective(_, _) => &image[0..0],
+        Verdict::Defective(_, _) => no_record(image),
         Verdict::Sound(count) => record_after(image, changes, &mut starts, count as usize, number),
     }
 }

@@ -19,6 +19,7 @@ use Rattle.image.proofs.Soundness.{is-sound, is-defective}
 use Rattle.rows.specs.Entry.{Entry, entriesOf, rowOf}
 use Rattle.rows.proofs.Images.{length-of}
 use Rattle.merged.specs.Held.{bytesAt, entriesAt}
+use Rattle.changes.specs.Limits.{mostChanges}
 use Rattle.changes.specs.Change.{Changed, done, refusedAt, changesOf}
 use Rattle.changes.specs.Fold.{badImage, badChange, noRoom, fits, finished, afterChanges, foldOf, afterImage}
 use Rattle.output.specs.Writing.{Written}
@@ -84,7 +85,7 @@ module _ (image changes before : List ℕ) where
     pub fold-is : foldOf image changes (length before) ≡ afterChanges (take 4 image) (length before) c
     unfolding foldOf
     fold-is =
-        ap (afterImage image changes (length before)) s ∙ by-length (recordsOf (imageOf image)) (leb (length changes) 65536)
+        ap (afterImage image changes (length before)) s ∙ by-length (recordsOf (imageOf image)) (leb (length changes) mostChanges)
         ∙ ap (afterChanges (take 4 image) (length before)) e
 
   pub fold-refused : imageOf image ≡ sound (recordsOf (imageOf image)) → (o : ℕ) → changedIn image changes (recordsOf (imageOf image)) ≡ refusedAt o → (r : Folded)

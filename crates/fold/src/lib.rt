@@ -1,18 +1,19 @@
 // A change file folded into an image: the final image is written to a lent buffer.
 ghost use mathlib.Core.Path.{_≡_};
 ghost use mathlib.Core.Bool.{true};
-ghost use mathlib.Core.List.{_++_};
-ghost use Prim.Native.Nat.{_+_, _≤_};
+ghost use Prim.Native.Nat.{_≤_};
 ghost use lib.ListN.{length, take};
 ghost use Rattle.registry.specs.Limits.{mostImage};
 ghost use Rattle.image.specs.Image.{startsRight};
 ghost use Rattle.image.specs.Index.{Indexed};
 ghost use Rattle.output.specs.Writing.{Written};
-ghost use Rattle.rows.specs.Entry.{rowOf};
+ghost use Rattle.changes.specs.Limits.{mostChanges, mostEntries};
 ghost use Rattle.changes.specs.Fold.{badImage, badChange, foldOf};
-ghost use Rattle.merged.specs.Held.{entriesAt, Held};
+ghost use Rattle.merged.specs.Held.{rowAt, imageAt, Merged};
 ghost use Rattle.fold.specs.Call.{foldedOf, outAfter, counting, Gives, Finished};
 use applying::Applied;
+use changes::MOST_ENTRIES;
+use changes::PerEntry;
 use final_list::changed;
 use image::Verdict;
 use image::index;
@@ -27,12 +28,12 @@ use registry::PerRecord;
 fn put_records<'a>(
     image: &'a [u8],
     changes: &'a [u8],
-    index: &[u32; 9600],
+    index: &PerEntry,
     n: usize,
     out: &mut [u8],
 ) -> usize
-    requires { ⌜ (length (now index) ≡ 9600) × (n ≤ 9600) × (length (rowOf (entriesAt (now image) (now changes) (take n (now index)))) ≤ length (now out)) ⌝ }
-    ensures { λ r. ⌜ Written (rowOf (entriesAt (now (image .entry)) (now (changes .entry)) (take n (now (index .entry))))) (now (out .entry)) (now (out .exit)) r ⌝ }
+    requires { ⌜ (length (now index) ≡ mostEntries) × (n ≤ mostEntries) × (length (rowAt (now image) (now changes) (take n (now index))) ≤ length (now out)) ⌝ }
+    ensures { λ r. ⌜ Written (rowAt (now (image .entry)) (now (changes .entry)) (take n (now (index .entry)))) (now (out .entry)) (now (out .exit)) r ⌝ }
 {
     let mut at: usize = 0;
     let mut i: usize = 0;
@@ -91,14 +92,13 @@ fn counted(reason: u32, count: u32) -> Folded
 fn finish<'a>(
     image: &'a [u8],
     changes: &'a [u8],
-    index: &[u32; 9600],
+    index: &PerEntry,
     n: usize,
     out: &mut [u8],
 ) -> Folded
-    requires { ⌜ (length (now index) ≡ 9600) × (n ≤ 9600) × Held (now image) (now changes) (take n (now index)) × (startsRight (now image) ≡ true)
-        × (length (now image) ≤ mostImage) × (length (now changes) ≤ 65536) ⌝ }
-    ensures { λ r. ⌜ Finished (take 4 (now (image .entry)) ++ rowOf (entriesAt (now (image .entry)) (now (changes .entry)) (take n (now (index .entry)))))
-        (now (out .entry)) (now (out .exit)) r ⌝ }
+    requires { ⌜ Merged (now image) (now changes) (now index) n × (startsRight (now image) ≡ true)
+        × (length (now image) ≤ mostImage) × (length (now changes) ≤ mostChanges) ⌝ }
+    ensures { λ r. ⌜ Finished (imageAt (now (image .entry)) (now (changes .entry)) (take n (now (index .entry)))) (now (out .entry)) (now (out .exit)) r ⌝ }
 {
     let size = 4 + size_of(image, changes, index, n);
     let verdict = final_verdict(image, changes, index, n, size);
@@ -124,7 +124,7 @@ fn fold_sound<'a>(
     requires { ⌜ Indexed (now image) count (now starts) ⌝ }
     ensures { λ r. ⌜ Gives (foldOf (now (image .entry)) (now (changes .entry)) (length (now (out .entry)))) (now (out .entry)) (now (out .exit)) r ⌝ }
 {
-    let mut index = [0u32; 9600];
+    let mut index = [0u32; MOST_ENTRIES];
     match changed(image, changes, starts, count, &mut index) {
         Applied::RefusedAt(offset) => bad_change(offset as u32),
         Applied::Done(n) => finish(image, changes, &index, n, out),

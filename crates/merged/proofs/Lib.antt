@@ -1,6 +1,5 @@
 pub mod Fields
 pub mod Known
-pub mod Keys
-pub mod Ranks
+pub mod Numbered
 pub mod Index
 pub mod Rows

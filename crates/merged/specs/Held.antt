@@ -1,22 +1,22 @@
 -- Serves contracts and proofs. The records that an index of starts holds: each is a position of the image or, from 262,144 on, of the change file.
 use mathlib.Core.Path.{_≡_}
 use mathlib.Core.Bool.{cond}
-use mathlib.Core.List.{List, [], map}
+use mathlib.Core.List.{List, [], _++_, map}
 use Prim.Native.Nat.{ℕ, _-_, _*_, _≤_}
 use lib.Dec.{ltb}
-use lib.ListN.{length}
+use lib.ListN.{length, take}
 use lib.Seq.{slice}
 use Rattle.registry.specs.Limits.{mostImage}
-use Rattle.registry.specs.Tags.{isBlock, widthOf, asBlock, ipv4Network}
 use Rattle.fields.specs.Field.{Head, field, short, headOf}
 use Rattle.fields.specs.Positions.{fieldAt}
 use Rattle.fields.specs.declared.Field.{Field}
 use Rattle.fields.specs.declared.Field.the-variants.{Whole, Short}
-use Rattle.records.specs.Record.{Record, keyOf}
+use Rattle.records.specs.Record.{Record}
 use Rattle.records.specs.Judge.{Judged, bad, good, judge}
-use Rattle.rows.specs.Entry.{Entry, entry, parsedOf}
+use Rattle.rows.specs.Entry.{Entry, entry, parsedOf, rowOf}
 use Rattle.rows.specs.Good.{GoodEntry, AllGood}
 use Rattle.rows.specs.Ordered.{Ordered}
+use Rattle.changes.specs.Limits.{mostEntries}
 use Rattle.changes.specs.Change.{keyed}
 
 -- the bytes of the field at a position; none where no whole field stands
@@ -46,8 +46,16 @@ parsedFrom bytes = recordIn (headOf bytes)
 abbrev pub entryOf : List ℕ → Entry
 entryOf bytes = entry (parsedFrom bytes) bytes
 
+-- those at the starts of an index
 abbrev pub entriesAt : List ℕ → List ℕ → List ℕ → List Entry
 entriesAt image changes starts = map (λ (p : ℕ). entryOf (bytesAt image changes p)) starts
+
+-- their bytes, and those of an image with them
+abbrev pub rowAt : List ℕ → List ℕ → List ℕ → List ℕ
+rowAt image changes starts = rowOf (entriesAt image changes starts)
+
+abbrev pub imageAt : List ℕ → List ℕ → List ℕ → List ℕ
+imageAt image changes starts = take 4 image ++ rowAt image changes starts
 
 -- one whole record without defects 3 to 5
 abbrev pub Recorded : List ℕ → Type 0
@@ -58,13 +66,20 @@ pub record Held (image changes starts : List ℕ) : Type 0 where
   pub good : AllGood (entriesAt image changes starts)
   pub ordered : Ordered (parsedOf (entriesAt image changes starts))
 
--- Keys
+-- an index, whose first n places hold the starts of such records
+pub record Merged (image changes index : List ℕ) (n : ℕ) : Type 0 where
+  pub full : length index ≡ mostEntries
+  pub few : n ≤ mostEntries
+  pub held : Held image changes (take n index)
 
--- the range, name or handle of a record
-abbrev pub bareKey : Record → List ℕ
-bareKey r = cond (isBlock (r .tag)) (r .range) (keyOf r)
+-- Serving the functions that change the index
 
--- a key with the tag of a record
-pub record Key (tag : ℕ) (key : List ℕ) : Type 0 where
-  pub known : ipv4Network ≤ tag
-  pub sized : tag ≤ asBlock → length key ≡ 2 * widthOf tag
+-- an index whose first n places are these starts
+pub record Starting (index : List ℕ) (n : ℕ) (starts : List ℕ) : Type 0 where
+  pub first : take n index ≡ starts
+  pub full : length index ≡ mostEntries
+
+-- how many bytes the records at these starts have
+pub record Sized (image changes starts : List ℕ) (r : ℕ) : Type 0 where
+  pub is : r ≡ length (rowAt image changes starts)
+  pub bounded : r ≤ mostImage * mostEntries

@@ -5,6 +5,7 @@ use mathlib.Core.List.{List}
 use native.Mathlib.Omega.{arith}
 use lib.ListN.{length, take}
 use lib.Seq.{length-take-le}
+use Rattle.registry.specs.Limits.{mostRecords}
 use Rattle.output.specs.Listing.{Reported, Collected}
 use Rattle.output.specs.declared.Listed.{Listed}
 
@@ -18,7 +19,7 @@ module _ {hits found : List ℕ} {n : ℕ} (c : Collected hits found n) where
   pub as-many : n ≡ length (take n hits)
   as-many = sym (length-take-le n hits in-hits)
 
-  pub few-reported : length (take n hits) ≤ 4096
+  pub few-reported : length (take n hits) ≤ mostRecords
   few-reported = let k = as-many in omega (arith, c .few)
 
   pub reported : {list after : List ℕ} {r : Listed} → Reported (take n hits) list after r → Reported found list after r

@@ -5,6 +5,7 @@ use mathlib.Core.Path.{_≡_}
 use mathlib.Core.List.{List, [], _∷_}
 use lib.Dec.{ltb}
 use lib.ListN.{length, take}
+use Rattle.registry.specs.Limits.{mostRecords}
 use Rattle.output.specs.declared.Found.{Found}
 use Rattle.output.specs.declared.Found.the-variants.{At, Nothing}
 use Rattle.output.specs.declared.Listed.{Listed}
@@ -31,6 +32,6 @@ pub record Reported (found list after : List ℕ) (r : Listed) : Type 0 where
 
 -- The record numbers found, in the first n places of an array.
 pub record Collected (hits found : List ℕ) (n : ℕ) : Type 0 where
-  pub full : length hits ≡ 4096
-  pub few : n ≤ 4096
+  pub full : length hits ≡ mostRecords
+  pub few : n ≤ mostRecords
   pub same : take n hits ≡ found

@@ -1,6 +1,7 @@
 // Record numbers reported to a lent list, and bytes written to a lent buffer.
 ghost use Prim.Native.Nat.{_≤_};
 ghost use lib.ListN.{length};
+ghost use Rattle.registry.specs.Limits.{mostRecords};
 ghost use Rattle.output.specs.Listing.{foundNumbers, Reported};
 ghost use Rattle.output.specs.Writing.{Written};
 
@@ -18,7 +19,7 @@ pub enum Listed {
 
 // Writes the hits to the first places of the list. Where it has fewer places than there are hits, nothing is written.
 pub fn report(hits: &[u32], list: &mut [u32]) -> Listed
-    requires { ⌜ length (now hits) ≤ 4096 ⌝ }
+    requires { ⌜ length (now hits) ≤ mostRecords ⌝ }
     ensures { λ r. ⌜ Reported (now (hits .entry)) (now (list .entry)) (now (list .exit)) r ⌝ }
 {
     let need = hits.len();

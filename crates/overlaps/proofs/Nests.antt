@@ -9,7 +9,7 @@ use Rattle.address.specs.Ranges.{Range}
 use Rattle.octets.specs.Positions.{numberIn}
 use Rattle.records.specs.Record.{firstOf, lastOf}
 use Rattle.merged.specs.Held.{parsedFrom, Recorded}
-use Rattle.merged.proofs.Known.{range-read, key-room}
+use Rattle.merged.proofs.Known.{range-read, range-room}
 
 module _ (s : List ℕ) (k : Recorded s) (h : parsedFrom s .tag ≤ 18) (w : ℕ) (e : w ≡ widthOf (parsedFrom s .tag)) where
   pub first-read : numberIn s 6 w ≡ firstOf (parsedFrom s)
@@ -19,4 +19,4 @@ module _ (s : List ℕ) (k : Recorded s) (h : parsedFrom s .tag ≤ 18) (w : ℕ
   last-read = rw e (sym (ap (λ (x : Range). x .last) (range-read s k h)))
 
   pub room-read : 6 + 2 * w ≤ length s
-  room-read = omega (arith, e, key-room s k h)
+  room-read = omega (arith, e, range-room s k h)

@@ -20,10 +20,10 @@ use Rattle.rows.specs.Ordered.{AllAfter, after-cons, Ordered, ordered-cons}
 use Rattle.records.proofs.Judging.{judged-after}
 use Rattle.rows.proofs.Rows.{image-step, entry-head}
 use Rattle.changes.proofs.Ranks.{no-cons}
-use Rattle.merged.specs.Held.{bytesAt, parsedFrom, entryOf, entriesAt, Recorded, Held}
+use Rattle.merged.specs.Held.{bytesAt, parsedFrom, entryOf, entriesAt, Recorded, Merged}
 use Rattle.overlaps.specs.Overlaps.{OpenBlocks, openLast, Overlaps}
 use Rattle.merged.proofs.Known.{known, first-at-most}
-use Rattle.merged.proofs.Ranks.{entry-at, recorded-at}
+use Rattle.merged.proofs.Numbered.{entry-at, recorded-at}
 
 -- The pass
 
@@ -62,8 +62,8 @@ scan-start image changes es stack z = record {
   next = λ x more e. (refl, record { tags = omega arith; firsts = λ f b. omega arith });
 }
 
-module _ (image changes index : List ℕ) (count : ℕ) (k : count ≤ length index) (h : Held image changes (take count index))
-    (stack : List ℕ) (depth before i : ℕ) (m : Scanned image changes (entriesAt image changes (take count index)) stack depth before i) (l : i < count) where
+module _ {image changes index : List ℕ} {count : ℕ} (o : Merged image changes index count)
+    {stack : List ℕ} {depth before i : ℕ} (m : Scanned image changes (entriesAt image changes (take count index)) stack depth before i) (l : i < count) where
   abbrev es : List Entry
   es = entriesAt image changes (take count index)
 
@@ -77,10 +77,10 @@ module _ (image changes index : List ℕ) (count : ℕ) (k : count ≤ length in
   q = parsedFrom (bytesAt image changes start)
 
   here : drop i es ≡ x ∷ drop (suc i) es
-  here = entry-at image changes index count k i l
+  here = entry-at o i l
 
   pub whole : Recorded (bytesAt image changes start)
-  whole = recorded-at image changes index count k h i l
+  whole = recorded-at o i l
 
   pub after : After before (m .bound) q
   after = m .next x (drop (suc i) es) here .1
@@ -117,8 +117,8 @@ module _ (image changes index : List ℕ) (count : ℕ) (k : count ≤ length in
 
       pub scan-crossing : y ≡ Crossing → imageFrom 4096 [] (rowOf es) ≡ defective 7 i
       scan-crossing e =
-          let o : crossesAny (m .earlier) q ≡ true = rw e at says in
-          sym (rw (o, m .counted) at step)
+          let p : crossesAny (m .earlier) q ≡ true = rw e at says in
+          sym (rw (p, m .counted) at step)
 
       module _ (u : ℕ) (e : y ≡ Under u) where
         under : Goes (m .earlier) before (openLast image changes stack) depth q u
@@ -143,7 +143,7 @@ module _ (image changes index : List ℕ) (count : ℕ) (k : count ≤ length in
           shallow = omega (arith, under .few, m .shallow);
           rest = rw (add-one i) (rw (under .clear, add-one i) at step);
           next = λ y more f.
-              (let g = sorted-next i es x y (drop (suc i) es) more (h .ordered) here (rw (add-one i) at f) in
+              (let g = sorted-next i es x y (drop (suc i) es) more (o .held .ordered) here (rw (add-one i) at f) in
               (g, follows-after q (y .parsed) g));
         }
 

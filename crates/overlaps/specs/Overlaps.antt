@@ -3,6 +3,7 @@ use mathlib.Core.Path.{_≡_}
 use mathlib.Core.List.{List, []}
 use Prim.Native.Nat.{ℕ, _-_, _≤_, _<_}
 use lib.ListN.{length, getD, drop}
+use Rattle.registry.specs.Tags.{asBlock}
 use Rattle.registry.specs.Limits.{mostRecords}
 use Rattle.records.specs.Record.{Record, lastOf}
 use Rattle.image.specs.Image.{defective, imageFrom}
@@ -13,6 +14,13 @@ use Rattle.merged.specs.Held.{bytesAt, parsedFrom, Recorded}
 abbrev pub OpenBlocks : List ℕ → List ℕ → List ℕ → ℕ → ℕ → Type 0
 OpenBlocks image changes stack depth tag = (d : ℕ) → d < depth
     → Recorded (bytesAt image changes (getD stack d 0)) × (parsedFrom (bytesAt image changes (getD stack d 0)) .tag ≡ tag)
+
+-- r is a block, and these are the open blocks of its tag
+pub record Among (image changes stack : List ℕ) (depth : ℕ) (r : List ℕ) : Type 0 where
+  pub few : depth ≤ mostRecords
+  pub whole : Recorded r
+  pub block : parsedFrom r .tag ≤ asBlock
+  pub opened : OpenBlocks image changes stack depth (parsedFrom r .tag)
 
 -- the last address of open block d
 abbrev pub openLast : List ℕ → List ℕ → List ℕ → ℕ → ℕ

@@ -1,7 +1,6 @@
 // The final image judged by the index of its records, without being made: too long, too many records, or an overlap.
 ghost use mathlib.Core.Path.{_≡_};
 ghost use mathlib.Core.Bool.{true};
-ghost use mathlib.Core.List.{_++_};
 ghost use Prim.Native.Nat.{_+_, _≤_};
 ghost use lib.ListN.{length, take};
 ghost use Rattle.registry.specs.Tags.{asBlock};
@@ -11,9 +10,9 @@ ghost use Rattle.nesting.specs.Nest.{nestOf};
 ghost use Rattle.placing.specs.Step.{nestIn};
 ghost use Rattle.image.specs.Image.{startsRight, imageOf};
 ghost use Rattle.image.specs.Checking.{verdictOf};
-ghost use Rattle.rows.specs.Entry.{rowOf};
-ghost use Rattle.merged.specs.Held.{parsedFrom, entriesAt, Recorded, Held};
-ghost use Rattle.overlaps.specs.Overlaps.{OpenBlocks, openLast, Overlaps};
+ghost use Rattle.merged.specs.Held.{parsedFrom, entriesAt, rowAt, imageAt, Recorded, Merged};
+ghost use Rattle.overlaps.specs.Overlaps.{OpenBlocks, Among, openLast, Overlaps};
+use changes::PerEntry;
 use image::Verdict;
 use merged::record_at;
 use nesting::Nesting;
@@ -34,7 +33,7 @@ fn nest<'a>(
     stack: &PerRecord,
     depth: usize,
 ) -> Nesting
-    requires { ⌜ (depth ≤ mostRecords) × Recorded (now r) × (parsedFrom (now r) .tag ≤ asBlock) × OpenBlocks (now image) (now changes) (now stack) depth (parsedFrom (now r) .tag) ⌝ }
+    requires { ⌜ Among (now image) (now changes) (now stack) depth (now r) ⌝ }
     ensures { λ x. ⌜ x ≡ nestOf (openLast (now (image .entry)) (now (changes .entry)) (now (stack .entry))) (rangeOf (parsedFrom (now (r .entry)))) depth ⌝ }
 {
     let width = width_of(r[0]);
@@ -78,11 +77,11 @@ fn nest_after<'a>(
 fn first_overlap<'a>(
     image: &'a [u8],
     changes: &'a [u8],
-    index: &[u32; 9600],
+    index: &PerEntry,
     count: usize,
     n: usize,
 ) -> usize
-    requires { ⌜ (length (now index) ≡ 9600) × (n ≤ mostRecords) × Held (now image) (now changes) (take count (now index)) × (n ≤ count) × (count ≤ 9600) ⌝ }
+    requires { ⌜ Merged (now image) (now changes) (now index) count × (n ≤ mostRecords) × (n ≤ count) ⌝ }
     ensures { λ r. ⌜ Overlaps (entriesAt (now (image .entry)) (now (changes .entry)) (take count (now (index .entry)))) n r ⌝ }
 {
     let mut stack = [0u32; MOST_RECORDS];
@@ -109,13 +108,13 @@ fn first_overlap<'a>(
 pub fn final_verdict<'a>(
     image: &'a [u8],
     changes: &'a [u8],
-    index: &[u32; 9600],
+    index: &PerEntry,
     n: usize,
     size: usize,
 ) -> Verdict
-    requires { ⌜ (length (now index) ≡ 9600) × (n ≤ 9600) × Held (now image) (now changes) (take n (now index)) × (startsRight (now image) ≡ true)
-        × (size ≡ 4 + length (rowOf (entriesAt (now image) (now changes) (take n (now index))))) ⌝ }
-    ensures { λ r. ⌜ r ≡ verdictOf (imageOf (take 4 (now (image .entry)) ++ rowOf (entriesAt (now (image .entry)) (now (changes .entry)) (take n (now (index .entry)))))) ⌝ }
+    requires { ⌜ Merged (now image) (now changes) (now index) n × (startsRight (now image) ≡ true)
+        × (size ≡ 4 + length (rowAt (now image) (now changes) (take n (now index)))) ⌝ }
+    ensures { λ r. ⌜ r ≡ verdictOf (imageOf (imageAt (now (image .entry)) (now (changes .entry)) (take n (now (index .entry))))) ⌝ }
 {
     if MOST_IMAGE < size {
         return Verdict::Defective(1, 0);

@@ -9,6 +9,8 @@ mod known;
 ghost use Prim.Native.Nat.{_≤_, _<_};
 ghost use lib.ListN.{length};
 ghost use Rattle.registry.specs.Limits.{mostRecords};
+ghost use Rattle.changes.specs.Limits.{mostChanges};
+use changes::MOST_CHANGES;
 use entries::contents_span;
 use fields::Field;
 use fields::step_at;
@@ -45,7 +47,7 @@ fn handle_in(r: &[u8]) -> &[u8] {
 
 // What is wrong with a change that holds r as the record to add.
 fn tell_addition(r: &[u8])
-    requires { ⌜ length (now r) ≤ 65536 ⌝ }
+    requires { ⌜ length (now r) ≤ mostChanges ⌝ }
 {
     let mut starts = [0u32; MOST_RECORDS];
     match index_from(r, 0, &mut starts) {
@@ -93,7 +95,7 @@ fn tell_key(r: &[u8]) {
 
 // What is wrong with a change that holds r as the record to remove.
 fn tell_removal(r: &[u8]) {
-    if applying::good_removal(r) {
+    if one_change::good_removal(r) {
         tell(b"it removes a record that is not there");
         tell_key(r);
     } else if has_record_tag(r) {
@@ -105,7 +107,7 @@ fn tell_removal(r: &[u8]) {
 
 // What is wrong with the change at an offset.
 fn tell_change(changes: &[u8], at: usize)
-    requires { ⌜ length (now changes) ≤ 65536 ⌝ }
+    requires { ⌜ length (now changes) ≤ mostChanges ⌝ }
 {
     let Field::Whole { tag, start, end } = step_at(changes, at) else {
         tell(b"it is cut short");
@@ -141,7 +143,7 @@ fn number_at(changes: &[u8], offset: usize) -> usize {
 }
 
 fn tell_refused(changes: &[u8], at: usize)
-    requires { ⌜ length (now changes) ≤ 65536 ⌝ }
+    requires { ⌜ length (now changes) ≤ mostChanges ⌝ }
 {
     tell(b"change ");
     tell_number(number_at(changes, at) as u64);
@@ -160,7 +162,7 @@ fn tell_refusal<'a>(
     image_name: &[u8],
     changes_name: &[u8],
 )
-    requires { ⌜ length (now changes) ≤ 65536 ⌝ }
+    requires { ⌜ length (now changes) ≤ mostChanges ⌝ }
 {
     if r.reason == 2 {
         tell_image(image_name, r.defect, r.place);
@@ -297,7 +299,7 @@ fn fold_into<'a>(
     changes_name: &[u8],
     output: &[u8],
 )
-    requires { ⌜ (length (now changes) ≤ 65536) × (length (now output) ≤ mostRecords) ⌝ }
+    requires { ⌜ (length (now changes) ≤ mostChanges) × (length (now output) ≤ mostRecords) ⌝ }
 {
     let mut room = [0u8; MOST_IMAGE];
     let r = rdap::fold(image, changes, &mut room);
@@ -314,9 +316,9 @@ fn fold_into<'a>(
 fn fold_with(image: &[u8], image_name: &[u8], changes_name: &[u8], output: &[u8])
     requires { ⌜ length (now output) ≤ mostRecords ⌝ }
 {
-    let mut changes = [0u8; 65537];
+    let mut changes = [0u8; MOST_CHANGES + 1];
     let n = read_whole(changes_name, &mut changes);
-    if n <= 65536 {
+    if n <= MOST_CHANGES {
         fold_into(
             image,
             part(&changes, 0, n),
@@ -330,7 +332,7 @@ fn fold_with(image: &[u8], image_name: &[u8], changes_name: &[u8], output: &[u8]
 fn run(image_name: &[u8], changes_name: &[u8], output: &[u8])
     requires { ⌜ length (now output) ≤ mostRecords ⌝ }
 {
-    let mut image = [0u8; 262145];
+    let mut image = [0u8; MOST_IMAGE + 1];
     let n = read_whole(image_name, &mut image);
     if n <= MOST_IMAGE {
         fold_with(part(&image, 0, n), image_name, changes_name, output);

@@ -20,7 +20,7 @@ use Rattle.image.specs.Index.{tagOf, Standing, Selected}
 use Rattle.image.specs.declared.Run.{Run}
 use Rattle.registry.specs.declared.Part.{Part}
 use Rattle.image.proofs.Soundness.{counted, few-records, few-bytes}
-use Rattle.entries.proofs.Halves.{carried}
+use Rattle.halves.proofs.Halves.{carried}
 use Rattle.entries.proofs.Standing.{standing-of, contents-in-image, start-inside}
 use Rattle.output.specs.Listing.{Reported}
 use Rattle.output.specs.declared.Listed.{Listed}

@@ -6,22 +6,23 @@ use native.Mathlib.Omega.{arith}
 use lib.ListN.{length, take}
 use denote.Ref.{now}
 use borrow.Author.Tests.{not-true, not-false}
+use Rattle.registry.specs.Limits.{mostRecords}
 use Rattle.merged.specs.Held.{entriesAt}
-use Rattle.applying.specs.Steps.{ChangeAt}
-use Rattle.applying.specs.declared.Change.the-variants.{Add, Remove}
-use Rattle.applying.proofs.Applying.{Reached, reach-start, room, reach-end, reach-malformed, reach-refused, reach-next, forward, added-long}
+use Rattle.one_change.specs.Read.{ChangeAt}
+use Rattle.one_change.specs.declared.Change.the-variants.{Add, Remove}
+use Rattle.applying.proofs.Applying.{Reached, reach-start, room, merged, reach-end, reach-malformed, reach-refused, reach-next, added-long}
 use Rattle.applying.proofs.apply.Statement.{statement}
 use Rattle.applying.proofs.apply.Tie as tie
 
 abbrev Inv-loop : tie.InvT-loop
 Inv-loop image changes index₀ count starts₀ n₀ at₀ index starts n at =
-    Reached image changes (entriesAt image changes (take count index₀)) index n at × (length starts ≡ 4096)
+    Reached image changes (entriesAt image changes (take count index₀)) index n at × (length starts ≡ mostRecords)
 
 abbrev μ-loop : tie.MeasureT-loop
 μ-loop image changes index₀ count starts₀ n₀ at₀ index starts n at = length changes - at
 
 loop-holds : tie.Need-loop-holds Inv-loop μ-loop
-loop-holds c = let a = c .before .before in (reach-start _ _ _ _ (a .pre .0) (a .pre .1) (a .pre .3), a .pre .4)
+loop-holds c = let a = c .before .before in (reach-start _ _ _ _ (a .pre .0) (a .pre .1), a .pre .3)
 
 change-at-requires : tie.Need-change-at-requires Inv-loop μ-loop
 change-at-requires c κs =
@@ -45,7 +46,7 @@ add-requires c κs =
     let a = i .before .before .before .before in
     let m = i .before .loop .inv .0 in
     let x = added s in
-    (m .full, room _ _ _ _ _ _ m (a .pre .2), x .0 .forward, x .0 .within, a .pre .2, m .held, x .1)
+    (merged m (a .pre .2), room m (a .pre .2), x .0 .forward, x .0 .within, a .pre .2, x .1)
 
 returns : tie.Need-returns Inv-loop μ-loop
 returns c =
@@ -53,12 +54,12 @@ returns c =
     let i = inside s in
     let a = i .before .before .before .before in
     let m = i .before .loop .inv .0 in
-    (reach-refused _ _ _ _ _ _ m (a .pre .2) _ _ _ (added s .0) (rw (not-true (c .before .add .result) (c .if1 .taken)) at (c .before .add .ensures .0)), c .before .add .ensures .1)
+    (reach-refused m (a .pre .2) (added s .0) (rw (not-true (c .before .add .result) (c .if1 .taken)) at (c .before .add .ensures .is)), c .before .add .ensures .full)
 
 add-n : tie.Need-add-n Inv-loop μ-loop
 add-n c =
     let i = inside (c .before .before .before .before) in
-    omega (arith, room _ _ _ _ _ _ (i .before .loop .inv .0) (i .before .before .before .before .pre .2))
+    omega (arith, room (i .before .loop .inv .0) (i .before .before .before .before .pre .2))
 
 loop-less : tie.Need-loop-less Inv-loop μ-loop
 loop-less c =
@@ -73,7 +74,7 @@ loop-again c =
     let a = i .before .before .before .before in
     let m = i .before .loop .inv .0 in
     let x = added s in
-    (reach-next _ _ _ _ _ _ m (a .pre .2) _ _ _ (x .0) _ _ (c .before .add .ensures .1) (rw (not-false (c .before .add .result) (c .if1 .left)) at (c .before .add .ensures .0)) (added-long _ _ _ _ _ _ m (a .pre .2) _ _ (x .0) (x .1)), s .before .before .change-at .ensures .1)
+    (reach-next m (a .pre .2) (x .0) _ _ (c .before .add .ensures .full) (rw (not-false (c .before .add .result) (c .if1 .left)) at (c .before .add .ensures .is)) (added-long m (a .pre .2) (x .0) (x .1)), s .before .before .change-at .ensures .1)
 
 enum-known-start-2 : tie.Need-enum-known-start-2 Inv-loop μ-loop
 enum-known-start-2 c = search needs
@@ -91,7 +92,7 @@ remove-requires c κs =
     let a = i .before .before .before .before in
     let m = i .before .loop .inv .0 in
     let x = removed s in
-    (m .full, omega (arith, room _ _ _ _ _ _ m (a .pre .2)), x .1, x .0 .within, m .held, x .2)
+    (merged m (a .pre .2), x .1, x .0 .within, x .2)
 
 returns-2 : tie.Need-returns-2 Inv-loop μ-loop
 returns-2 c =
@@ -99,7 +100,7 @@ returns-2 c =
     let i = inside2 s in
     let a = i .before .before .before .before in
     let m = i .before .loop .inv .0 in
-    (reach-refused _ _ _ _ _ _ m (a .pre .2) _ _ _ (removed s .0) (rw (not-true (c .before .remove .result) (c .if2 .taken)) at (c .before .remove .ensures .0)), c .before .remove .ensures .2)
+    (reach-refused m (a .pre .2) (removed s .0) (rw (not-true (c .before .remove .result) (c .if2 .taken)) at (c .before .remove .ensures .0 .is)), c .before .remove .ensures .0 .full)
 
 sub-n : tie.Need-sub-n Inv-loop μ-loop
 sub-n c = omega (arith, c .before .remove .ensures .1 (not-false (c .before .remove .result) (c .if2 .left)))
@@ -117,7 +118,7 @@ loop-again-2 c =
     let a = i .before .before .before .before in
     let m = i .before .loop .inv .0 in
     let x = removed s .0 in
-    (reach-next _ _ _ _ _ _ m (a .pre .2) _ _ _ x _ _ (c .before .remove .ensures .2) (rw (not-false (c .before .remove .result) (c .if2 .left)) at (c .before .remove .ensures .0)) (omega (arith, m .few, x .after, x .forward)), s .before .before .change-at .ensures .1)
+    (reach-next m (a .pre .2) x _ _ (c .before .remove .ensures .0 .full) (rw (not-false (c .before .remove .result) (c .if2 .left)) at (c .before .remove .ensures .0 .is)) (omega (arith, m .few, x .after, x .forward)), s .before .before .change-at .ensures .1)
 
 enum-told : tie.Need-enum-told Inv-loop μ-loop
 enum-told c = search needs
@@ -127,13 +128,13 @@ returns-3 c =
     let i = c .before .before .before .before in
     let a = i .before .before .before .before in
     let m = i .before .loop .inv .0 in
-    (reach-malformed _ _ _ _ _ _ m (a .pre .2) (i .loop-test .taken) (rw (c .enum-told .given .1) at (c .before .before .change-at .ensures .0)), m .full)
+    (reach-malformed m (a .pre .2) (i .loop-test .taken) (rw (c .enum-told .given .1) at (c .before .before .change-at .ensures .0)), m .full)
 
 returns-4 : tie.Need-returns-4 Inv-loop μ-loop
 returns-4 c =
     let a = c .before .before .before .before in
     let m = c .before .loop .inv .0 in
-    (reach-end _ _ _ _ _ _ m (a .pre .2) (c .loop-test .left), m .full)
+    (reach-end m (a .pre .2) (c .loop-test .left), m .full)
 
 pub apply-spec : {M : Type 1} → statement M
 apply-spec =

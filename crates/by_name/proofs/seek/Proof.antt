@@ -6,7 +6,7 @@ use denote.Ref.{now}
 use borrow.Author.Needs.{needs}
 use Rattle.octets.proofs.Order.{told-first, told-second, told-equal}
 use Rattle.image.specs.Index.{Selected}
-use Rattle.entries.proofs.Halves.{Sorted, Halved, halve-none, halve-up, halve-down}
+use Rattle.halves.proofs.Halves.{Sorted, Halved, halve-none, halve-up, halve-down}
 use Rattle.search.proofs.Picks.{few, in-image, text-inside}
 use Rattle.by_name.proofs.Seeking.{Before, Behind, keys-sorted, none-found, one-found, Left, at-start, step-allowed, step-taken}
 use Rattle.by_name.proofs.seek.Statement.{statement}

@@ -6,7 +6,7 @@ use denote.Ref.{now}
 use borrow.Author.Needs.{needs}
 use Rattle.image.proofs.Soundness.{few-records, few-bytes}
 use Rattle.entries.proofs.Standing.{tag-here, start-inside}
-use Rattle.entries.proofs.Halves.{Halved, halve-none, halve-up, halve-down}
+use Rattle.halves.proofs.Halves.{Halved, halve-none, halve-up, halve-down}
 use Rattle.entries.proofs.Tags.{below, notBelow, tags-sorted, first-found}
 use Rattle.entries.proofs.first_from.Statement.{statement}
 use Rattle.entries.proofs.first_from.Tie as tie

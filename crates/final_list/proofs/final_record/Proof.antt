@@ -1,5 +1,6 @@
 -- The verdict on the image, then the changes (Numbered.antt).
 use borrow.Author.Needs.{needs}
+use mathlib.Core.Path.{_∙_}
 use Rattle.final_list.proofs.Numbered.{record-defective}
 use Rattle.final_list.proofs.final_record.Statement.{statement}
 use Rattle.final_list.proofs.final_record.Tie as tie
@@ -10,14 +11,8 @@ index-requires c κs = search needs
 enum-told : tie.Need-enum-told
 enum-told c = search needs
 
-sub-result : tie.Need-sub-result
-sub-result c = search needs
-
-part-result-start : tie.Need-part-result-start
-part-result-start c = search needs
-
-part-result-end : tie.Need-part-result-end
-part-result-end c = search needs
+no-record-requires : tie.Need-no-record-requires
+no-record-requires c κs = search needs
 
 enum-known-count : tie.Need-enum-known-count
 enum-known-count c = search needs
@@ -31,7 +26,7 @@ record-after-requires c κs =
     k .before .before .index .ensures .indexed _ (k .count .given .1)
 
 returns : tie.Need-returns
-returns c = record-defective _ _ _ _ (c .before .before .before .index .ensures .verdict) _ _ (c .before .enum-told .given .1)
+returns c = c .no-record .ensures ∙ record-defective _ _ _ _ (c .before .before .before .index .ensures .verdict) _ _ (c .before .enum-told .given .1)
 
 returns-2 : tie.Need-returns-2
 returns-2 c = search needs
@@ -42,9 +37,7 @@ final-record-spec =
     (tie.spec
     index-requires
     enum-told
-    sub-result
-    part-result-start
-    part-result-end
+    no-record-requires
     enum-known-count
     cast-record-after
     record-after-requires

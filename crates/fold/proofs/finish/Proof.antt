@@ -24,7 +24,7 @@ add-size c = search needs
 final-verdict-requires : tie.Need-final-verdict-requires
 final-verdict-requires c κs =
     let a = c .before .before .before .before in
-    (a .pre .0, a .pre .1, a .pre .2, a .pre .3, ap (λ (n : ℕ). 4 + n) (c .size-of .ensures .0))
+    (a .pre .0, a .pre .1, ap (λ (n : ℕ). 4 + n) (c .size-of .ensures .is))
 
 enum-known-verdict : tie.Need-enum-known-verdict
 enum-known-verdict c = search needs
@@ -51,12 +51,12 @@ returns-2 c =
     let t = c .before .before in
     let v = t .before .before in
     let a = v .before .before .before .before .before in
-    finish-full _ _ _ (v .final-verdict .ensures) _ (t .enum-told .given .1) _ (image-size _ _ (a .pre .3) _ (v .before .size-of .ensures .0)) _ (c .before .if1 .taken) (c .counted .ensures)
+    finish-full _ _ _ (v .final-verdict .ensures) _ (t .enum-told .given .1) _ (image-size _ _ (a .pre .1) _ (v .before .size-of .ensures .is)) _ (c .before .if1 .taken) (c .counted .ensures)
 
 slice-aggregate-put-bytes : tie.Need-slice-aggregate-put-bytes
 slice-aggregate-put-bytes c =
     let a = c .before .before .before .before .before .before .before .before .before in
-    sym (length-take-le 4 (now (a .args .image)) (start-length (now (a .args .image)) (a .pre .3)))
+    sym (length-take-le 4 (now (a .args .image)) (start-length (now (a .args .image)) (a .pre .1)))
 
 put-bytes-requires : tie.Need-put-bytes-requires
 put-bytes-requires c κs =
@@ -77,10 +77,10 @@ put-records-requires : tie.Need-put-records-requires
 put-records-requires c κs = search needs
 
 add-counted : tie.Need-add-counted
-add-counted c = omega (arith, c .before .before .put-records .ensures .size, c .before .before .before .before .before .before .before .before .before .before .before .before .before .size-of .ensures .0, c .before .before .before .before .before .before .before .before .before .before .before .before .before .size-of .ensures .1)
+add-counted c = omega (arith, c .before .before .put-records .ensures .size, c .before .before .before .before .before .before .before .before .before .before .before .before .before .size-of .ensures .is, c .before .before .before .before .before .before .before .before .before .before .before .before .before .size-of .ensures .bounded)
 
 cast-counted-2 : tie.Need-cast-counted-2
-cast-counted-2 c = omega (arith, c .before .before .put-records .ensures .size, c .before .before .before .before .before .before .before .before .before .before .before .before .before .size-of .ensures .0, c .before .before .before .before .before .before .before .before .before .before .before .before .before .size-of .ensures .1)
+cast-counted-2 c = omega (arith, c .before .before .put-records .ensures .size, c .before .before .before .before .before .before .before .before .before .before .before .before .before .size-of .ensures .is, c .before .before .before .before .before .before .before .before .before .before .before .before .before .size-of .ensures .bounded)
 
 counted-requires-2 : tie.Need-counted-requires-2
 counted-requires-2 c κs = search needs
@@ -96,8 +96,8 @@ returns-3 c =
     let t = e .before in
     let v = t .before .before in
     let a = v .before .before .before .before .before in
-    let z = image-size (now (a .args .image)) (entriesAt (now (a .args .image)) (now (a .args .changes)) (take (a .args .n) (now (a .args .index)))) (a .pre .3) _ (v .before .size-of .ensures .0) in
-    let l = length-take-le 4 (now (a .args .image)) (start-length (now (a .args .image)) (a .pre .3)) in
+    let z = image-size (now (a .args .image)) (entriesAt (now (a .args .image)) (now (a .args .changes)) (take (a .args .n) (now (a .args .index)))) (a .pre .1) _ (v .before .size-of .ensures .is) in
+    let l = length-take-le 4 (now (a .args .image)) (start-length (now (a .args .image)) (a .pre .1)) in
     let f = rw (b .put-bytes .ensures .size ∙ l) at (b .put-bytes .ensures) in
     finish-written _ _ _ (v .final-verdict .ensures) _ (t .enum-told .given .1) _ z _ (e .if1 .left) _ _ (written-both f (p .put-records .ensures)) (c .counted2 .ensures)
 

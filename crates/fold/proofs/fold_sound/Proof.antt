@@ -6,12 +6,10 @@ use denote.Ref.{now}
 use Rattle.image.specs.Image.{sound, imageOf}
 use Rattle.image.specs.Part.{recordsOf}
 use Rattle.image.proofs.Soundness.{is-sound, opens, few-bytes}
+use Rattle.final_list.proofs.Changes.{is-read, after-merged}
 use Rattle.fold.proofs.Finals.{fold-refused, fold-finished}
 use Rattle.fold.proofs.fold_sound.Statement.{statement}
 use Rattle.fold.proofs.fold_sound.Tie as tie
-
-is-read : (a : tie.Start) → imageOf (now (a .args .image)) ≡ sound (recordsOf (imageOf (now (a .args .image))))
-is-read a = is-sound (imageOf (now (a .args .image))) _ (a .pre .sound)
 
 changed-requires : tie.Need-changed-requires
 changed-requires c κs = search needs
@@ -36,13 +34,13 @@ finish-requires c κs =
     let y = o .before .before .changed .ensures in
     let a = o .before .before .before .before .before .before .before .before in
     let z = rw (o .n .given .1) at (y .0) in
-    (y .1, z .2, z .1, opens _ _ (is-read a) .started, few-bytes _ _ (a .pre .sound), z .3)
+    (after-merged z (y .1), opens _ _ (is-read (a .pre)) .started, few-bytes _ _ (a .pre .sound), z .3)
 
 returns : tie.Need-returns
 returns c =
     let o = c .before .before in
     let z = rw (o .offset .given .1) at (o .before .before .changed .ensures .0) in
-    fold-refused _ _ _ (is-read (o .before .before .before .before .before .before .before .before)) _ (z .0) _ (c .bad-change .ensures)
+    fold-refused _ _ _ (is-read (o .before .before .before .before .before .before .before .before .pre)) _ (z .0) _ (c .bad-change .ensures)
 
 same-length : tie.Need-same-length
 same-length c = search needs
@@ -52,7 +50,7 @@ returns-2 c =
     let f = c .before .before in
     let o = f .before .before .before .before in
     let z = rw (o .n .given .1) at (o .before .before .changed .ensures .0) in
-    fold-finished _ _ _ (is-read (o .before .before .before .before .before .before .before .before)) _ (z .0) _ _ (f .finish .ensures)
+    fold-finished _ _ _ (is-read (o .before .before .before .before .before .before .before .before .pre)) _ (z .0) _ _ (f .finish .ensures)
 
 pub fold-sound-spec : {M : Type 1} → statement M
 fold-sound-spec =

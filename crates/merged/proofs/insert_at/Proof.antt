@@ -5,6 +5,7 @@ use Prim.Native.Nat.{_-_, _≤_, _<_}
 use native.Mathlib.Omega.{arith}
 use lib.ListN.{length, length-set}
 use denote.Ref.{now}
+use Rattle.changes.specs.Limits.{mostEntries}
 use Rattle.merged.proofs.Index.{Shifted, shift-start, shift-step, shift-length, shift-done}
 use Rattle.merged.proofs.insert_at.Statement.{statement}
 use Rattle.merged.proofs.insert_at.Tie as tie
@@ -21,7 +22,7 @@ room a = omega (arith, a .pre .0, a .pre .1)
 loop-holds : tie.Need-loop-holds Inv-loop μ-loop
 loop-holds c = (omega arith, omega arith, shift-start _ _ (room c))
 
-long : (c : tie.In-loop Inv-loop μ-loop) → c .before .loop .i < 9600
+long : (c : tie.In-loop Inv-loop μ-loop) → c .before .loop .i < mostEntries
 long c = omega (arith, c .before .before .pre .1, c .before .loop .inv .1)
 
 sub-index : tie.Need-sub-index Inv-loop μ-loop
@@ -61,7 +62,10 @@ returns c =
     let a = c .before .before in
     let l = c .before .loop in
     let e : l .i ≡ a .args .at = omega (arith, l .inv .0, c .loop-test .left) in
-    (rw (← e) (shift-done _ _ (room a) (l .i) _ (l .inv .2) (l .inv .1) (a .args .start)), length-set (l .index) (l .i) (a .args .start) ∙ shift-length _ _ (room a) (l .i) _ (l .inv .2) (l .inv .1) ∙ a .pre .0)
+    record {
+      first = rw (← e) (shift-done _ _ (room a) (l .i) _ (l .inv .2) (l .inv .1) (a .args .start));
+      full = length-set (l .index) (l .i) (a .args .start) ∙ shift-length _ _ (room a) (l .i) _ (l .inv .2) (l .inv .1) ∙ a .pre .0;
+    }
 
 pub insert-at-spec : {M : Type 1} → statement M
 insert-at-spec =

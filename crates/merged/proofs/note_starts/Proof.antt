@@ -7,11 +7,12 @@ use native.Mathlib.Numerals.{add-one}
 use lib.ListN.{length, take, length-set}
 use lib.Seq.{take-suc, take-suc-set}
 use denote.Ref.{now}
+use Rattle.changes.specs.Limits.{mostEntries}
 use Rattle.merged.proofs.note_starts.Statement.{statement}
 use Rattle.merged.proofs.note_starts.Tie as tie
 
 abbrev Inv-loop : tie.InvT-loop
-Inv-loop starts count index₀ i₀ index i = (i ≤ count) × (length index ≡ 9600) × (take i index ≡ take i starts)
+Inv-loop starts count index₀ i₀ index i = (i ≤ count) × (length index ≡ mostEntries) × (take i index ≡ take i starts)
 
 abbrev μ-loop : tie.MeasureT-loop
 μ-loop starts count index₀ i₀ index i = count - i
@@ -51,7 +52,7 @@ returns : tie.Need-returns Inv-loop μ-loop
 returns c =
     let l = c .before .loop in
     let e : l .i ≡ c .before .before .args .count = omega (arith, l .inv .0, c .loop-test .left) in
-    (rw e at (l .inv .2), l .inv .1)
+    record { first = rw e at (l .inv .2); full = l .inv .1 }
 
 pub note-starts-spec : {M : Type 1} → statement M
 note-starts-spec =

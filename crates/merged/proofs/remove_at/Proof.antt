@@ -56,10 +56,11 @@ returns c =
     let a = c .before .before in
     let l = c .before .loop in
     let e : l .i ≡ a .args .n = omega (arith, l .inv .1, c .loop-test .left) in
-    let m = rw e at (l .inv .2) in (
-      move-done _ (a .args .at) (a .args .n) _ (a .pre .2) (omega (arith, a .pre .0, a .pre .1)) m,
-      move-length _ (a .args .at) (a .args .n - suc (a .args .at)) _ m (omega (arith, a .pre)) ∙ a .pre .0,
-    )
+    let m = rw e at (l .inv .2) in
+    record {
+      first = move-done _ (a .args .at) (a .args .n) _ (a .pre .2) (omega (arith, a .pre .0, a .pre .1)) m;
+      full = move-length _ (a .args .at) (a .args .n - suc (a .args .at)) _ m (omega (arith, a .pre)) ∙ a .pre .0;
+    }
 
 pub remove-at-spec : {M : Type 1} → statement M
 remove-at-spec =

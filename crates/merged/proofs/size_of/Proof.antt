@@ -56,7 +56,7 @@ returns c =
     let l = c .before .loop in
     let a = c .before .before .before .before in
     let e : l .i ≡ a .args .n = omega (arith, l .inv .0, c .loop-test .left) in
-    ((rw e at (l .inv .1)), omega (arith, l .inv .0, l .inv .2, a .pre .1))
+    record { is = rw e at (l .inv .1); bounded = omega (arith, l .inv .0, l .inv .2, a .pre .1) }
 
 pub size-of-spec : {M : Type 1} → statement M
 size-of-spec =

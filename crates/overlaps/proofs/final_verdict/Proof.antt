@@ -1,16 +1,16 @@
--- The length, then the overlaps, then the count (Finals.antt).
+-- The length, then the overlaps, then the count (Verdicts.antt).
 use borrow.Author.Needs.{needs}
 use mathlib.Core.Path.{_≡_}
 use Prim.Native.Nat.{_-_, _≤_, _<_}
 use native.Mathlib.Omega.{arith}
 use mathlib.Core.Logic.{⊎-elim}
-use Rattle.merged.proofs.Ranks.{count-is}
+use Rattle.merged.proofs.Numbered.{count-is}
 use Rattle.overlaps.proofs.Verdicts.{too-long, overlapping, too-many, no-defect}
 use Rattle.overlaps.proofs.final_verdict.Statement.{statement}
 use Rattle.overlaps.proofs.final_verdict.Tie as tie
 
 returns : tie.Need-returns
-returns c = let a = c .before .before .before in too-long _ _ (a .pre .3) _ (a .pre .4) (c .if1 .taken)
+returns c = let a = c .before .before .before in too-long _ _ (a .pre .1) _ (a .pre .2) (c .if1 .taken)
 
 fewer : (c : tie.Joined2) → (c .if2 .few ≤ 4096) × (c .if2 .few ≤ c .before .before .before .before .args .n)
     × (c .before .before .before .before .args .n ≤ 4096 → c .if2 .few ≡ c .before .before .before .before .args .n) × (4096 < c .before .before .before .before .args .n → c .if2 .few ≡ 4096)
@@ -20,7 +20,7 @@ first-overlap-requires : tie.Need-first-overlap-requires
 first-overlap-requires c κs =
     let a = c .before .before .before .before in
     let f = fewer c in
-    (a .pre .0, f .0, a .pre .2, f .1, a .pre .1)
+    (a .pre .0, f .0, f .1)
 
 cast-t10 : tie.Need-cast-t10
 cast-t10 c = omega (arith, c .if3 .taken, fewer (c .before .before) .0)
@@ -30,14 +30,14 @@ returns-2 c =
     let f = c .before in
     let j = f .before in
     let a = j .before .before .before .before in
-    overlapping _ _ (a .pre .3) _ (a .pre .4) (omega (arith, j .before .if1 .left)) (a .pre .2 .good) (a .args .n) _ (j .if2 .few) (count-is _ _ _ (a .args .n) (omega (arith, a .pre .0, a .pre .1))) (f .first-overlap .ensures) (c .if3 .taken)
+    overlapping _ _ (a .pre .1) _ (a .pre .2) (omega (arith, j .before .if1 .left)) (a .pre .0 .held .good) (a .args .n) _ (j .if2 .few) (count-is (a .pre .0)) (f .first-overlap .ensures) (c .if3 .taken)
 
 returns-3 : tie.Need-returns-3
 returns-3 c =
     let f = c .before .before in
     let j = f .before in
     let a = j .before .before .before .before in
-    too-many _ _ (a .pre .3) _ (a .pre .4) (omega (arith, j .before .if1 .left)) (a .pre .2 .good) (a .args .n) _ (j .if2 .few) (count-is _ _ _ (a .args .n) (omega (arith, a .pre .0, a .pre .1))) (f .first-overlap .ensures) (c .before .if3 .left) (fewer j .3 (c .if4 .taken)) (c .if4 .taken)
+    too-many _ _ (a .pre .1) _ (a .pre .2) (omega (arith, j .before .if1 .left)) (a .pre .0 .held .good) (a .args .n) _ (j .if2 .few) (count-is (a .pre .0)) (f .first-overlap .ensures) (c .before .if3 .left) (fewer j .3 (c .if4 .taken)) (c .if4 .taken)
 
 cast-t11 : tie.Need-cast-t11
 cast-t11 c = search needs
@@ -47,7 +47,7 @@ returns-4 c =
     let f = c .before .before in
     let j = f .before in
     let a = j .before .before .before .before in
-    no-defect _ _ (a .pre .3) _ (a .pre .4) (omega (arith, j .before .if1 .left)) (a .pre .2 .good) (a .args .n) _ (j .if2 .few) (count-is _ _ _ (a .args .n) (omega (arith, a .pre .0, a .pre .1))) (f .first-overlap .ensures) (c .before .if3 .left) (fewer j .2 (c .if4 .left))
+    no-defect _ _ (a .pre .1) _ (a .pre .2) (omega (arith, j .before .if1 .left)) (a .pre .0 .held .good) (a .args .n) _ (j .if2 .few) (count-is (a .pre .0)) (f .first-overlap .ensures) (c .before .if3 .left) (fewer j .2 (c .if4 .left))
 
 pub final-verdict-spec : {M : Type 1} → statement M
 final-verdict-spec =

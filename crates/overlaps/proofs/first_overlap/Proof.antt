@@ -39,9 +39,9 @@ nest-after-requires c κs =
     let i = c .before .before .before in
     let a = i .before .before .before .before in
     let e = c .before .record-at .ensures in (
-      scan-room _ _ _ (a .args .count) (omega (arith, a .pre .0, a .pre .4)) (a .pre .2) _ _ _ _ (i .before .loop .inv .1) (omega (arith, i .loop-test .taken, a .pre .3)) (omega (arith, i .loop-test .taken, a .pre .1)),
-      subst Recorded (sym e) (whole _ _ _ (a .args .count) (omega (arith, a .pre .0, a .pre .4)) (a .pre .2) _ _ _ _ (i .before .loop .inv .1) (omega (arith, i .loop-test .taken, a .pre .3))),
-      λ f b. open-blocks _ _ _ (a .args .count) (omega (arith, a .pre .0, a .pre .4)) (a .pre .2) _ _ _ _ (i .before .loop .inv .1) (omega (arith, i .loop-test .taken, a .pre .3)) (f ∙ ap (λ (s : List ℕ). parsedFrom s .tag) e) b,
+      scan-room (a .pre .0) (i .before .loop .inv .1) (omega (arith, i .loop-test .taken, a .pre .2)) (omega (arith, i .loop-test .taken, a .pre .1)),
+      subst Recorded (sym e) (whole (a .pre .0) (i .before .loop .inv .1) (omega (arith, i .loop-test .taken, a .pre .2))),
+      λ f b. open-blocks (a .pre .0) (i .before .loop .inv .1) (omega (arith, i .loop-test .taken, a .pre .2)) (f ∙ ap (λ (s : List ℕ). parsedFrom s .tag) e) b,
     )
 
 enum-known-d : tie.Need-enum-known-d Inv-loop μ-loop
@@ -56,7 +56,7 @@ deep : (d : tie.After-d Inv-loop μ-loop) → d .d .given .0 .0 < 4096
 deep d =
     let i = d .before .before .before .before .before .before in
     let a = i .before .before .before .before in
-    scan-depth _ _ _ (a .args .count) (omega (arith, a .pre .0, a .pre .4)) (a .pre .2) _ _ _ _ (i .before .loop .inv .1) (omega (arith, i .loop-test .taken, a .pre .3)) (omega (arith, i .loop-test .taken, a .pre .1)) _ (nested (d .before .before)) _ (d .d .given .1)
+    scan-depth (a .pre .0) (i .before .loop .inv .1) (omega (arith, i .loop-test .taken, a .pre .2)) (omega (arith, i .loop-test .taken, a .pre .1)) _ (nested (d .before .before)) _ (d .d .given .1)
 
 mul-stack : tie.Need-mul-stack Inv-loop μ-loop
 mul-stack c = omega (arith, deep (c .before))
@@ -72,7 +72,7 @@ shared-slice-read-family c =
     let d = c .before .before in
     let i = d .before .before .before .before .before .before in
     let a = i .before .before .before .before in
-    let w = known _ (whole _ _ _ (a .args .count) (omega (arith, a .pre .0, a .pre .4)) (a .pre .2) _ _ _ _ (i .before .loop .inv .1) (omega (arith, i .loop-test .taken, a .pre .3))) in
+    let w = known _ (whole (a .pre .0) (i .before .loop .inv .1) (omega (arith, i .loop-test .taken, a .pre .2))) in
     omega (arith, ap length (d .before .before .before .before .record-at .ensures), w .long)
 
 add-i : tie.Need-add-i Inv-loop μ-loop
@@ -87,9 +87,9 @@ loop-again c =
     let i = d .before .before .before .before .before .before in
     let a = i .before .before .before .before in
     let e = d .before .before .before .before .record-at .ensures in
-    let w = known _ (whole _ _ _ (a .args .count) (omega (arith, a .pre .0, a .pre .4)) (a .pre .2) _ _ _ _ (i .before .loop .inv .1) (omega (arith, i .loop-test .taken, a .pre .3))) in (
+    let w = known _ (whole (a .pre .0) (i .before .loop .inv .1) (omega (arith, i .loop-test .taken, a .pre .2))) in (
       omega (arith, i .loop-test .taken),
-      scan-on _ _ _ (a .args .count) (omega (arith, a .pre .0, a .pre .4)) (a .pre .2) _ _ _ _ (i .before .loop .inv .1) (omega (arith, i .loop-test .taken, a .pre .3)) (omega (arith, i .loop-test .taken, a .pre .1)) _ (nested (d .before .before)) _ (d .d .given .1) _ (ap (λ (s : List ℕ). getD s 0 0) e ∙ w .tag-is),
+      scan-on (a .pre .0) (i .before .loop .inv .1) (omega (arith, i .loop-test .taken, a .pre .2)) (omega (arith, i .loop-test .taken, a .pre .1)) _ (nested (d .before .before)) _ (d .d .given .1) _ (ap (λ (s : List ℕ). getD s 0 0) e ∙ w .tag-is),
     )
 
 enum-told : tie.Need-enum-told Inv-loop μ-loop
@@ -100,7 +100,7 @@ returns c =
     let p = c .before .before in
     let i = p .before .before .before .before in
     let a = i .before .before .before .before in
-    overlap-here _ _ _ (i .loop-test .taken) (scan-crossing _ _ _ (a .args .count) (omega (arith, a .pre .0, a .pre .4)) (a .pre .2) _ _ _ _ (i .before .loop .inv .1) (omega (arith, i .loop-test .taken, a .pre .3)) (omega (arith, i .loop-test .taken, a .pre .1)) _ (nested p) (c .enum-told .given .1))
+    overlap-here _ _ _ (i .loop-test .taken) (scan-crossing (a .pre .0) (i .before .loop .inv .1) (omega (arith, i .loop-test .taken, a .pre .2)) (omega (arith, i .loop-test .taken, a .pre .1)) _ (nested p) (c .enum-told .given .1))
 
 returns-2 : tie.Need-returns-2 Inv-loop μ-loop
 returns-2 c =

@@ -28,7 +28,7 @@ abbrev μ-loop : tie.MeasureT-loop
 μ-loop image changes r stack depth width d₀ d = d
 
 shared-slice-read-width-of : tie.Need-shared-slice-read-width-of Inv-loop μ-loop
-shared-slice-read-width-of c = omega (arith, known _ (c .before .before .before .before .pre .1) .long)
+shared-slice-read-width-of c = omega (arith, known _ (c .before .before .before .before .pre .whole) .long)
 
 width-of-requires : tie.Need-width-of-requires Inv-loop μ-loop
 width-of-requires c κs = search needs
@@ -36,7 +36,7 @@ width-of-requires c κs = search needs
 loop-holds : tie.Need-loop-holds Inv-loop μ-loop
 loop-holds c =
     let a = c .before .before .before .before .before in
-    (omega arith, c .width-of .ensures .0 ∙ ap widthOf (known _ (a .pre .1) .tag-is), refl)
+    (omega arith, c .width-of .ensures .0 ∙ ap widthOf (known _ (a .pre .whole) .tag-is), refl)
 
 sub-record-at : tie.Need-sub-record-at Inv-loop μ-loop
 sub-record-at c = search needs
@@ -45,7 +45,7 @@ mul-record-at : tie.Need-mul-record-at Inv-loop μ-loop
 mul-record-at c = search needs
 
 element-copy-out-record-at : tie.Need-element-copy-out-record-at Inv-loop μ-loop
-element-copy-out-record-at c = omega (arith, c .before .loop .inv .0, c .before .before .before .before .before .before .before .pre .0)
+element-copy-out-record-at c = omega (arith, c .before .loop .inv .0, c .before .before .before .before .before .before .before .pre .few)
 
 record-at-requires : tie.Need-record-at-requires Inv-loop μ-loop
 record-at-requires c κs = search needs
@@ -78,8 +78,8 @@ opened : (c : tie.After-record-at Inv-loop μ-loop)
 opened c =
     let i = c .before .before in
     let a = i .before .before .before .before .before .before .before in
-    let q = a .pre .3 (i .before .loop .d - 1) (omega (arith, i .before .loop .inv .0, i .loop-test .taken)) in
-    open-by _ _ _ (a .pre .1) (a .pre .2) (q .0) (q .1) (i .before .loop .inv .1) _ (c .record-at .ensures)
+    let q = a .pre .opened (i .before .loop .d - 1) (omega (arith, i .before .loop .inv .0, i .loop-test .taken)) in
+    open-by _ _ _ (a .pre .whole) (a .pre .block) (q .0) (q .1) (i .before .loop .inv .1) _ (c .record-at .ensures)
 
 add-numbers-at-most : tie.Need-add-numbers-at-most Inv-loop μ-loop
 add-numbers-at-most c = omega (arith, opened c .own-room)

@@ -43,7 +43,12 @@ nest-requires c κs =
     let a = c .before .before .before .before .before .before .before in
     let e = sym (c .if2 .left) ∙ own a .tag-is in
     let h = c .before .before .if1 .left in
-    (a .pre .0, a .pre .1, omega (arith, own a .tag-is, h), subst (OpenBlocks (now (a .args .image)) (now (a .args .changes)) (now (a .args .stack)) (a .args .depth)) e (a .pre .2 e (omega (arith, c .if2 .left, h))))
+    record {
+      few = a .pre .0;
+      whole = a .pre .1;
+      block = omega (arith, own a .tag-is, h);
+      opened = subst (OpenBlocks (now (a .args .image)) (now (a .args .changes)) (now (a .args .stack)) (a .args .depth)) e (a .pre .2 e (omega (arith, c .if2 .left, h)));
+    }
 
 returns-3 : tie.Need-returns-3
 returns-3 c =
