@@ -51,8 +51,8 @@ edits = {str(p.relative_to(CRATES)).replace("/must-fail/", "/")[:-5] for p in CR
 crates = {p.name for p in CRATES.iterdir()}
 for name in ("PROMISES.md", "DECISIONS.md", "PROVING.md", "ARCHITECTURE.md"):
     for quoted in sorted(set(re.findall(r"`([^`\n]+)`", document(name)))):
-        function = re.fullmatch(r"([a-z_]+)::(?:[a-z_]+::)?([A-Za-z_]+)(?:::[a-z_]+)?(?:\(.*\))?", quoted)
-        edit = re.fullmatch(r"([a-z_]+)/([a-z_0-9]*)(\.\.)?", quoted)
+        function = re.fullmatch(r"([a-z0-9_]+)::(?:[a-z_]+::)?([A-Za-z_]+)(?:::[a-z_]+)?(?:\(.*\))?", quoted)
+        edit = re.fullmatch(r"([a-z0-9_]+)/([a-z_0-9]*)(\.\.)?", quoted)
         if function and function[1] in crates:
             check(re.search(rf"\b(fn|struct|enum|const) {function[2]}\b", sources), f"{name}: no {quoted}")
         elif edit and edit[1] in crates and edit[2] not in ("specs", "proofs", "src"):
@@ -68,7 +68,7 @@ heads, _, *rows = promises.split("## All that knows a rule")[1].split("\n| Rules
 heads = [head.strip() for head in heads.split("|")]
 for row in rows:
     for head, cell in zip(heads, row.split("|")[1:]):
-        for name in re.findall(r"[a-z_]+/specs/[A-Z]\w+", cell):
+        for name in re.findall(r"[a-z0-9_]+/specs/[A-Z]\w+", cell):
             check((CRATES / f"{name}.antt").is_file(), f"PROMISES.md: no table {name}")
         for name in re.findall(r"`(\w+)`", cell):
             check(re.search(rf"\bfn {name}\b", rust.get(head, "")), f"PROMISES.md: no {name} in {folders.get(head)}")
@@ -79,7 +79,7 @@ believed = {}
 for row in table.split("\n")[2:]:
     crate = None
     for part in re.split("[;,]", row.split("|")[2]):
-        named = re.match(r"\s*(?:([a-z_]+)/specs: )?(\w+) \((\d+)\)", part)
+        named = re.match(r"\s*(?:([a-z0-9_]+)/specs: )?(\w+) \((\d+)\)", part)
         crate = named[1] or crate
         believed[crate, named[2]] = int(named[3])
 for (crate, name), lines in believed.items():

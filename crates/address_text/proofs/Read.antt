@@ -16,7 +16,10 @@ use Rattle.numeral.specs.declared.Number.the-variants.{Value, Malformed}
 use Rattle.numeral.proofs.Laws.{decimal-le, h16-le}
 use Rattle.octets.specs.Split.{split}
 use Rattle.octets.proofs.Found.{none-some, cond-some}
-use Rattle.ip.specs.Ip.{prefixed, joined, exactly, oneByte, twoBytes, octets, ipv4, group, orElse, lastGroup, groups, side, elided, elision, ipv6, withoutZone, addressOf}
+use Rattle.ipv4.specs.Ipv4.{prefixed, joined, exactly, oneByte, octets, ipv4}
+use Rattle.elision.specs.Elision.{elided, elision}
+use Rattle.ipv6.specs.Ipv6.{twoBytes, group, orElse, lastGroup, groups, side, ipv6}
+use Rattle.ip.specs.Ip.{withoutZone, addressOf}
 
 pub some-is : {x y : List ℕ} → _≡_ {A = Option (List ℕ)} (some x) (some y) → x ≡ y
 some-is e = cc

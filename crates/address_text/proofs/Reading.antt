@@ -18,8 +18,10 @@ use Rattle.numeral.specs.Numeral.{digitValue}
 use Rattle.numeral.specs.Digits.{decimalText, hexText, following, spelled}
 use Rattle.numeral.proofs.Digits.{text-some, decimal-read, h16-read}
 use Rattle.numeral.proofs.Spelled.{text-lacks, split-spelled, spelled-least}
-use Rattle.ip.specs.Ip.{prefixed, joined, exactly, oneByte, octets, ipv4, groups, side, elided, elisionFirst, elision, ipv6}
-use Rattle.ip.proofs.GroupLaws.{group-bytes, last-group, side-groups}
+use Rattle.ipv4.specs.Ipv4.{prefixed, joined, exactly, oneByte, octets, ipv4}
+use Rattle.elision.specs.Elision.{elided, elisionFirst, elision}
+use Rattle.ipv6.specs.Ipv6.{groups, side, ipv6}
+use Rattle.ipv6.proofs.GroupLaws.{group-bytes, last-group, side-groups}
 use Rattle.ip_text.specs.Text.{dotted, colons}
 use Rattle.ip_groups.specs.Runs.{bytesOf}
 

@@ -21,9 +21,13 @@ use Rattle.octets.proofs.Found.{none-some}
 use Rattle.numeral.specs.Numeral.{digitValue, h16}
 use Rattle.numeral.specs.Digits.{hexText, following, spelled}
 use Rattle.numeral.proofs.Spelled.{spelled-least, spelled-lacks}
-use Rattle.ip.specs.Ip.{prefixed, joined, twoBytes, group, orElse, lastGroup, groups, side, elided, ipv4, ipv6, addressOf}
+use Rattle.ipv4.specs.Ipv4.{prefixed, joined, ipv4}
+use Rattle.elision.specs.Elision.{elided}
+use Rattle.ipv6.specs.Ipv6.{twoBytes, group, orElse, lastGroup, groups, side, ipv6}
+use Rattle.ip.specs.Ip.{addressOf}
 use Rattle.ip.proofs.Answers.{address-four, address-wide}
-use Rattle.ip.proofs.Foreign.{ipv4-not, ipv6-not}
+use Rattle.ipv4.proofs.Foreign.{ipv4-not}
+use Rattle.ipv6.proofs.Foreign.{ipv6-not}
 use Rattle.ip.proofs.Zones.{zones}
 use Rattle.ip_groups.specs.Groups.{groupsOf, zerosFirst, longestRun, runAt}
 use Rattle.ip_text.specs.Text.{dotted, colons, shortened, isMapped, ipv6Text, textOf}

@@ -1,24 +1,28 @@
 -- Laws of the answer of the address reader: what it is in each of its three cases, and what a caller learns from it.
 -- An address that was read has four bytes or sixteen; the zeros before the four do not change its number.
-use Prim.Native.Nat.{ℕ, _+_, _-_}
+use Prim.Native.Nat.{ℕ}
 use Prim.Native.Char.{code}
 use mathlib.Core.Path.{_≡_, refl, sym, ap, subst, _∙_}
 use mathlib.Core.List.{List, _++_}
 use mathlib.Core.Bool.{Bool, true, false, cond}
 use mathlib.Core.Option.{Option, none, some}
 use native.Mathlib.Omega.{arith}
-use lib.Dec.{eqb, leb, ltb}
-use lib.ListN.{length, take, drop, replicate, length-append, length-replicate}
+use lib.Dec.{eqb}
+use lib.ListN.{length, take, replicate}
 use lib.Seq.{take-all}
-use borrow.Author.Tests.{eqb-true, eqb-false, leb-true}
+use borrow.Author.Tests.{eqb-true, eqb-false}
 use Rattle.octets.specs.Lists.{found}
 use Rattle.octets.specs.Number.{value}
 use Rattle.address.specs.Address.{number, addressAt, number-at}
 use Rattle.address.specs.declared.Address.{Address}
 use Rattle.octets.specs.Split.{split}
-use Rattle.octets.proofs.Found.{found-is, found-none, none-some, cond-some}
-use Rattle.ip.specs.Ip.{exactly, octets, orElse, groups, side, elided, elision, ipv4, ipv6, withoutZone, addressOf}
+use Rattle.octets.proofs.Found.{found-is, found-none}
+use Rattle.ipv4.specs.Ipv4.{octets, ipv4}
+use Rattle.ipv6.specs.Ipv6.{orElse, ipv6}
+use Rattle.ip.specs.Ip.{withoutZone, addressOf}
 use Rattle.ip.specs.Answer.{answer}
+use Rattle.ipv4.proofs.Wide.{exactly-wide}
+use Rattle.ipv6.proofs.Wide.{ipv6-wide}
 use Rattle.ip.specs.declared.Family.{Family}
 use Rattle.ip.specs.declared.Family.the-variants.{V4, V6, Malformed}
 use Rattle.ip.specs.declared.IpAddress.{IpAddress}
@@ -57,35 +61,6 @@ module _ (s : List ℕ) (ok : Bool) (four : List ℕ) (is : found ok four ≡ ip
     answer-none f = rw (address-six s (found-none four is none-four), found-none six is₂ f)
 
 -- ---- the number of bytes
-
-exactly-wide : (n : ℕ) (o : Option (List ℕ)) (a : List ℕ) → exactly n o ≡ some a → length a ≡ n
-unfolding exactly
-exactly-wide n none a e = none-some a e
-exactly-wide n (some x) a e =
-    let q = cond-some (eqb (length x) n) x a e in
-    rw (← (q .1)) (eqb-true (length x) n (q .0))
-
-elided-wide : (o p : Option (List ℕ)) (a : List ℕ) → elided o p ≡ some a → length a ≡ 16
-unfolding elided
-elided-wide none p a e = none-some a e
-elided-wide (some x) none a e = none-some a e
-elided-wide (some x) (some y) a e =
-    let k : ℕ = 16 - (length x + length y) in
-    let zeros : List ℕ = replicate k 0 in
-    let q = cond-some (leb (length x + length y) 14) (x ++ zeros ++ y) a e in
-    rw (← (q .1))
-    (omega (arith, leb-true (length x + length y) 14 (q .0), length-append (x ++ zeros) y, length-append x zeros, length-replicate {A = ℕ} k 0))
-
-cond-wide : (b : Bool) (o p : Option (List ℕ)) (a : List ℕ) (n : ℕ) → (o ≡ some a → length a ≡ n) → (p ≡ some a → length a ≡ n)
-    → cond b o p ≡ some a → length a ≡ n
-cond-wide true o p a n f g e = f e
-cond-wide false o p a n f g e = g e
-
-ipv6-wide : (s a : List ℕ) → ipv6 s ≡ some a → length a ≡ 16
-unfolding ipv6
-ipv6-wide s a e =
-    cond-wide (ltb (elision s) (length s)) (elided (side false (take (elision s) s)) (side true (drop (elision s + 2) s)))
-    (exactly 16 (groups true (split (code ":") s))) a 16 (elided-wide _ _ a) (exactly-wide 16 _ a) e
 
 either-wide : (o p : Option (List ℕ)) (a : List ℕ) → (o ≡ some a → length a ≡ 4) → (p ≡ some a → length a ≡ 16)
     → orElse o p ≡ some a → (length a ≡ 4 → ⊥) → length a ≡ 16

@@ -1,6 +1,2 @@
-mod Addresses
-pub mod GroupLaws
-mod Elisions
 pub mod Answers
-pub mod Foreign
 pub mod Zones

@@ -12,10 +12,13 @@ use Rattle.octets.specs.Lists.{contains}
 use Rattle.numeral.specs.Numeral.{digitValue}
 use Rattle.octets.specs.Split.{before, after}
 use Rattle.octets.proofs.Cuts.{cut-known, after-nowhere, contains-known}
-use Rattle.ip.specs.Ip.{ipv4, ipv6, withoutZone, addressOf}
+use Rattle.ipv4.specs.Ipv4.{ipv4}
+use Rattle.ipv6.specs.Ipv6.{ipv6}
+use Rattle.ip.specs.Ip.{withoutZone, addressOf}
 use Rattle.ip.specs.Zones.{Zones}
 use Rattle.ip.proofs.Answers.{address-six}
-use Rattle.ip.proofs.Foreign.{ipv4-not, ipv6-not}
+use Rattle.ipv4.proofs.Foreign.{ipv4-not}
+use Rattle.ipv6.proofs.Foreign.{ipv6-not}
 
 module _ (s zone : List ℕ) (is : zone ≡ after (code "%") s) where
   pub zone-dropped : 1 ≤ length zone → before (code "%") s ≡ withoutZone s

@@ -1,9 +1,8 @@
 -- Opens the definitions of this crate and of those below it, for theorems that hold by computing: `unfolding computing`.
-use Rattle.numeral.specs.Computing as Numeral
-use Rattle.octets.specs.Computing as Pieces
-use Rattle.ip.specs.Ip.{prefixed, joined, exactly, oneByte, twoBytes, octets, ipv4, group, orElse, lastGroup, groups, side, elided, elisionFirst, elision, ipv6, withoutZone, addressOf}
-use Rattle.ip.specs.Answer.{upTo, answer}
+use Rattle.ipv6.specs.Computing as Ipv6
+use Rattle.ip.specs.Ip.{withoutZone, addressOf}
+use Rattle.ip.specs.Answer.{answer}
 
 unfoldable pub computing : Unit {0}
-unfolding Numeral.computing Pieces.computing prefixed joined exactly upTo oneByte twoBytes octets ipv4 group orElse lastGroup groups side elided elisionFirst elision ipv6 withoutZone addressOf answer
+unfolding Ipv6.computing withoutZone addressOf answer
 computing = tt

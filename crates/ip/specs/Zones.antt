@@ -7,7 +7,9 @@ use mathlib.Core.Bool.{false}
 use mathlib.Core.Option.{none}
 use lib.ListN.{length}
 use Rattle.octets.specs.Lists.{contains}
-use Rattle.ip.specs.Ip.{ipv4, ipv6, orElse, addressOf}
+use Rattle.ipv4.specs.Ipv4.{ipv4}
+use Rattle.ipv6.specs.Ipv6.{orElse, ipv6}
+use Rattle.ip.specs.Ip.{addressOf}
 
 pub record Zones : Type 0 where
   -- a zone is ignored, whatever it holds; what stands before it is IPv6 text

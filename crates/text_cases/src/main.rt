@@ -17,8 +17,8 @@ use libc::STDOUT_FILENO;
 use numeral::Number;
 use pattern::Form;
 use registry::Text;
-use segment::NameRead;
 use segment::TargetRead;
+use text_segment::NameRead;
 
 fn say(s: &[u8]) {
     io::write_all(STDOUT_FILENO, s);
@@ -98,7 +98,7 @@ fn say_pattern(text: Text, s: &[u8])
     requires { ⌜ length (now s) ≤ 1024 ⌝ }
 {
     let j = pieces::first_piece(s, b' ');
-    let read = segment::read_pattern(text, &s[..j]);
+    let read = text_segment::read_pattern(text, &s[..j]);
     let form = read.form;
     say_form(form);
     if j == s.len() {
@@ -170,11 +170,11 @@ fn say_found(letter: u8, s: &[u8])
     match letter {
         b'a' => say_target(segment::read_address_segment(s)),
         b'p' => say_prefix(s),
-        b'n' => say_target(segment::read_autnum_segment(s)),
-        b'm' => say_target(segment::read_autnums_segment(s)),
-        b'h' => say_name(segment::read_named(Text::Handle, s)),
-        b't' => say_name(segment::read_named(Text::Name, s)),
-        b'd' => say_name(segment::read_named(Text::Host, s)),
+        b'n' => say_target(autnum_segment::read_autnum_segment(s)),
+        b'm' => say_target(autnum_segment::read_autnums_segment(s)),
+        b'h' => say_name(text_segment::read_named(Text::Handle, s)),
+        b't' => say_name(text_segment::read_named(Text::Name, s)),
+        b'd' => say_name(text_segment::read_named(Text::Host, s)),
         b'H' => say_pattern(Text::Handle, s),
         b'T' => say_pattern(Text::Name, s),
         b'D' => say_pattern(Text::Host, s),

@@ -3,7 +3,7 @@ use mathlib.Core.Path.{_≡_, ap, _∙_}
 use lib.ListN.{length}
 use denote.Ref.{now}
 use borrow.Author.Needs.{needs}
-use Rattle.ip.specs.Ip.{ipv6}
+use Rattle.ipv6.specs.Ipv6.{ipv6}
 use Rattle.ip.proofs.Answers.{answer-four, answer-six, answer-none}
 use Rattle.ip.proofs.read_address.Statement.{statement}
 use Rattle.ip.proofs.read_address.Tie as tie

@@ -1,4 +1,7 @@
 -- `is_suffix`: by the length, by whether host names are meant, and by the first byte.
+use native.Mathlib.Omega.{arith}
+use lib.ListN.{length}
+use denote.Ref.{now}
 use borrow.Author.Tests.{le-leb, lt-leb}
 use borrow.Author.Needs.{needs}
 use Rattle.pattern.specs.Pattern.{isSuffix}
@@ -7,7 +10,7 @@ use Rattle.pattern.proofs.is_suffix.Tie as tie
 
 returns : tie.Need-returns
 unfolding isSuffix
-returns c = rw (le-leb _ _ (c .if1 .taken))
+returns c = rw (le-leb (length (now (c .before .args .q))) 0 (omega arith))
 
 returns-2 : tie.Need-returns-2
 unfolding isSuffix

@@ -1,0 +1,2 @@
+pub mod Elisions
+pub mod Sides

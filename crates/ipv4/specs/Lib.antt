@@ -1,0 +1,3 @@
+pub mod Ipv4
+pub mod Examples
+pub mod Computing

@@ -1,0 +1,3 @@
+pub mod GroupLaws
+pub mod Wide
+pub mod Foreign

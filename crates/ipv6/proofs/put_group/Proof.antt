@@ -1,0 +1,32 @@
+-- `put_group` puts the two bytes of a group after the first n: two stores.
+use mathlib.Core.Path.{_≡_}
+use native.Mathlib.Omega.{arith}
+use lib.ListN.{length}
+use borrow.Author.Needs.{needs}
+use Rattle.octets.proofs.Fronts.{stored₂}
+use Rattle.ipv6.proofs.put_group.Statement.{statement}
+use Rattle.ipv6.proofs.put_group.Tie as tie
+
+cast-b : tie.Need-cast-b
+cast-b c = search needs
+
+array-write-b : tie.Need-array-write-b
+array-write-b c = search needs
+
+cast-b-2 : tie.Need-cast-b-2
+cast-b-2 c = search needs
+
+add-b : tie.Need-add-b
+add-b c = search needs
+
+array-write-b-2 : tie.Need-array-write-b-2
+array-write-b-2 c = search needs
+
+returns : tie.Need-returns
+returns c =
+    let a = c .args in
+    let l : length (a .bytes) ≡ 16 = search needs in
+    stored₂ (a .bytes) (a .n) _ _ (omega arith)
+
+pub put-group-spec : {M : Type 1} → statement M
+put-group-spec = tie.close (tie.spec cast-b array-write-b cast-b-2 add-b array-write-b-2 returns)

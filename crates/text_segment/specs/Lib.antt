@@ -1,0 +1,3 @@
+pub mod Named
+pub mod Answers
+pub mod Computing
