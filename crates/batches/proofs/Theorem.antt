@@ -9,6 +9,7 @@ use borrow.Author.Tests.{ltb-true, ltb-false, lt-ltb, le-ltb}
 use lib.Dec.{ltb}
 use lib.ListN.{length, getD, take, drop, length-append, length-drop}
 use lib.Seq.{take-length}
+use Rattle.registry.specs.Limits.{mostPaths}
 use Rattle.image.specs.Image.{Image, sound, defective, imageOf}
 use Rattle.answers.specs.Reply.{Reply, ofReason, refusal, ofDefect, line, listAfter}
 use Rattle.calls.specs.Calls.{answerIn, answerOf}
@@ -41,7 +42,7 @@ module _ (image : Image) where
       (path : List ℕ) (paths : List (List ℕ)) (room : ℕ) → 4 ≤ room
       → answersIn image (path ∷ paths) room ≡ first path room ∷ answersIn image paths (left path room)
   unfolding answersIn
-  onward path paths room h = rw (le-ltb room 4 h)
+  onward path paths room h = ap (λ (t : Bool). cond t [] (first path room ∷ answersIn image paths (left path room))) (le-ltb room 4 h)
 
   -- What holds of no answers, where there are no paths or fewer than four places, and goes on from answers to one more before them, holds of all.
   module _
@@ -145,16 +146,16 @@ lines-few image =
 
 data Outcome (image : Image) (paths : List (List ℕ)) (room : ℕ) : Reply → Type 0 where
   refuses : {reply : Reply} → 1 ≤ reply .reason → reply .count ≡ 0 → reply .records ≡ [] → Outcome image paths room reply
-  answers : length paths ≤ 64 → Outcome image paths room (ofAnswers (answersIn image paths room))
+  answers : length paths ≤ mostPaths → Outcome image paths room (ofAnswers (answersIn image paths room))
 
 outcome : (image : Image) (paths : List (List ℕ)) (room : ℕ) → Outcome image paths room (batchIn paths image room)
 unfolding batchIn ofDefect refusal ofReason
 outcome (defective defect place) paths room = refuses {reply = ofDefect defect place} (omega arith) refl refl
-outcome (sound records) paths room = go (ltb 64 (length paths)) refl
+outcome (sound records) paths room = go (ltb mostPaths (length paths)) refl
   where
-    go : (t : Bool) → ltb 64 (length paths) ≡ t → Outcome (sound records) paths room (cond t (refusal 10) (ofAnswers (answersIn (sound records) paths room)))
+    go : (t : Bool) → ltb mostPaths (length paths) ≡ t → Outcome (sound records) paths room (cond t (refusal 10) (ofAnswers (answersIn (sound records) paths room)))
     go true e = refuses {reply = refusal 10} (omega arith) refl refl
-    go false e = answers (ltb-false 64 (length paths) e)
+    go false e = answers (ltb-false mostPaths (length paths) e)
 
 module _ {image : Image} {paths : List (List ℕ)} {room : ℕ} where
   each-in :
@@ -169,7 +170,7 @@ module _ {image : Image} {paths : List (List ℕ)} {room : ℕ} where
   stopped-in (refuses r c e) z h = absurd (omega arith)
   stopped-in (answers few) z h = stopped image paths room h
 
-  few-in : {reply : Reply} → Outcome image paths room reply → reply .count ≤ 64
+  few-in : {reply : Reply} → Outcome image paths room reply → reply .count ≤ mostPaths
   unfolding ofAnswers ofReason
   few-in (refuses r c e) = omega arith
   few-in (answers few) = omega (arith, few-answers image paths room)

@@ -6,6 +6,7 @@ use mathlib.Core.Bool.{cond}
 use lib.Dec.{ltb}
 use lib.ListN.{length}
 use Rattle.octets.specs.Split.{split}
+use Rattle.registry.specs.Limits.{mostPaths}
 use Rattle.image.specs.Image.{Image, sound, defective, imageOf}
 use Rattle.query.specs.declared.Kind.the-variants as Kind
 use Rattle.answers.specs.Reply.{Reply, ofReason, refusal, ofDefect, line}
@@ -35,7 +36,7 @@ ofAnswers replies = ofReason 0 Kind.None (length replies) (lines replies)
 -- A bad image gives the call reason 2, more than 64 paths reason 10, checked after it; both write nothing.
 unfoldable pub batchIn : List (List ℕ) → Image → ℕ → Reply
 batchIn paths (defective defect place) room = ofDefect defect place
-batchIn paths (sound records) room = cond (ltb 64 (length paths)) (refusal 10) (ofAnswers (answersIn (sound records) paths room))
+batchIn paths (sound records) room = cond (ltb mostPaths (length paths)) (refusal 10) (ofAnswers (answersIn (sound records) paths room))
 
 -- `records` of the reply are all the numbers that are written; places after the last answer are unchanged, as `listAfter` says of every call.
 unfoldable pub batchOf : List ℕ → List ℕ → ℕ → Reply

@@ -3,6 +3,7 @@ use Prim.Native.Nat.{ℕ, suc, _+_, _-_, _*_, _≤_, _<_}
 use mathlib.Core.Path.{_≡_}
 use mathlib.Core.List.{List, [], _++_}
 use lib.ListN.{length, take, drop, getD}
+use Rattle.registry.specs.Limits.{mostPaths}
 use Rattle.image.specs.Image.{imageOf}
 use Rattle.answers.specs.Reply.{line, listAfter}
 use Rattle.calls.specs.Calls.{answerOf}
@@ -37,6 +38,6 @@ pub record Batches : Type 0 where
   pub enough-each :
       (text image : List ℕ) (room i : ℕ) → 4100 * length (pathsOf text) ≤ room → i < batchOf text image room .count
       → answerOf (getD (pathsOf text) i []) image (room - length (earlier text image room i) - 4) .reason ≡ 9 → ⊥
-  pub few : (text image : List ℕ) (room : ℕ) → batchOf text image room .count ≤ 64
+  pub few : (text image : List ℕ) (room : ℕ) → batchOf text image room .count ≤ mostPaths
   -- The list afterwards is as long as before.
   pub list-length : (text image list : List ℕ) → length (listAfter (batchOf text image (length list)) list) ≡ length list

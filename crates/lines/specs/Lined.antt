@@ -5,13 +5,22 @@ use mathlib.Core.Bool.{cond}
 use mathlib.Core.List.{List, []}
 use lib.Dec.{ltb}
 use lib.ListN.{length}
+use Rattle.registry.specs.Limits.{mostRecords}
 use Rattle.output.specs.Writing.{Written}
 use Rattle.answers.specs.Reply.{Reply, listAfter}
+use Rattle.calls.specs.Calls.{answerOf}
 use Rattle.line_text.specs.Line.{lineText}
 
 -- bytes that every line fits into: 4 + 4,096 numbers of at most 10 digits, a space or a line feed after each
 abbrev pub longestLine : ℕ
-longestLine = (4 + 4096) * (10 + 1)
+longestLine = (4 + mostRecords) * (10 + 1)
+
+-- The reply to a path for a list that is never too short, and its line.
+abbrev pub replyTo : List ℕ → List ℕ → Reply
+replyTo path image = answerOf path image mostRecords
+
+abbrev pub lineOf : List ℕ → List ℕ → List ℕ
+lineOf path image = lineText (replyTo path image)
 
 -- What is written to a buffer of so many bytes: the line, if every line fits, else nothing.
 unfoldable pub textIn : Reply → ℕ → List ℕ

@@ -7,9 +7,7 @@
 ghost use Prim.Native.Nat.{_+_, _≤_, _<_};
 ghost use mathlib.Core.List.{_++_};
 ghost use lib.ListN.{length, take};
-ghost use Rattle.calls.specs.Calls.{answerOf};
-ghost use Rattle.line_text.specs.Line.{lineText};
-ghost use Rattle.lines.specs.Lined.{longestLine};
+ghost use Rattle.lines.specs.Lined.{longestLine, lineOf};
 ghost use Rattle.output.specs.Writing.{Written};
 use files::part;
 use files::read_whole;
@@ -32,7 +30,7 @@ fn make_room(out: &[u8; 77868], at: usize) -> usize
 // Answers a path, and puts its line there. Gives where the line ends.
 fn put_answer(path: &[u8], image: &[u8], list: &mut [u32; 4096], out: &mut [u8], at: usize) -> usize
     requires { ⌜ at + longestLine ≤ length (now out) ⌝ }
-    ensures { λ r. ⌜ Written (take at (now (out .entry)) ++ lineText (answerOf (now (path .entry)) (now (image .entry)) 4096)) (now (out .entry)) (now (out .exit)) r ⌝ }
+    ensures { λ r. ⌜ Written (take at (now (out .entry)) ++ lineOf (now (path .entry)) (now (image .entry))) (now (out .entry)) (now (out .exit)) r ⌝ }
 {
     at + lines::put_answer(path, image, list, &mut out[at..])
 }

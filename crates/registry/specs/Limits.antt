@@ -12,6 +12,10 @@ mostImage = 262144
 abbrev pub mostPath : ℕ
 mostPath = 1024
 
+-- S2.5, reason 10: 64 paths in a batch
+abbrev pub mostPaths : ℕ
+mostPaths = 64
+
 -- S4.4: 253 bytes in a host name
 abbrev pub mostHost : ℕ
 mostHost = 253

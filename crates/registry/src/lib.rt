@@ -16,12 +16,14 @@ pub const NAMESERVER: u8 = 0x14;
 
 pub const ENTITY: u8 = 0x15;
 
-// The limits (S2.1, S4.1, S4.3, S4.4).
+// The limits (S2.1, S2.5, S4.1, S4.3, S4.4).
 pub const MOST_RECORDS: usize = 4096;
 
 pub const MOST_IMAGE: usize = 262144;
 
 pub const MOST_PATH: usize = 1024;
+
+pub const MOST_PATHS: usize = 64;
 
 pub const MOST_HOST: usize = 253;
 

@@ -1,10 +1,8 @@
 // The third call on an image that is checked already: a relation of the block that a record number names.
-ghost use lib.ListN.{length, drop};
 ghost use Rattle.image.specs.Image.{imageOf};
-ghost use Rattle.image.specs.Part.{recordsOf};
 ghost use Rattle.image.specs.Index.{Indexed};
-ghost use Rattle.answers.specs.Answered.{Answered};
-ghost use Rattle.calls.specs.Calls.{blockFirst, ofBlock};
+ghost use Rattle.answers.specs.Answered.{AnsweredBy};
+ghost use Rattle.calls.specs.Calls.{recordIn};
 use answers::Answer;
 use query::Kind;
 use registry::AS_BLOCK;
@@ -23,7 +21,7 @@ pub fn relation(
     list: &mut [u32],
 ) -> Answer
     requires { ⌜ Indexed (now image) count (now starts) ⌝ }
-    ensures { λ r. ⌜ Answered (ofBlock relation (blockFirst (drop record_number (recordsOf (imageOf (now (image .entry)))))) (recordsOf (imageOf (now (image .entry)))) (length (now (list .entry)))) r (now (list .entry)) (now (list .exit)) ⌝ }
+    ensures { λ r. ⌜ AnsweredBy (recordIn (imageOf (now (image .entry))) record_number relation) r (now (list .entry)) (now (list .exit)) ⌝ }
 {
     let kind = Kind::Relation(relation);
     if count <= record_number {

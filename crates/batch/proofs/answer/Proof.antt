@@ -3,7 +3,7 @@ use mathlib.Core.List.{[]}
 use native.Mathlib.Omega.{arith}
 use denote.Ref.{now}
 use Rattle.batches.specs.Batch.{pathsOf}
-use Rattle.batch.proofs.Answering.{many-paths, paths-answered}
+use Rattle.batch.proofs.Paths.{many-paths, paths-answered}
 use borrow.Author.Needs.{needs}
 use Rattle.batch.proofs.answer.Statement.{statement}
 use Rattle.batch.proofs.answer.Tie as tie

@@ -1,6 +1,6 @@
 -- The call answers, and the numbers of its answer are written.
 use mathlib.Core.Path.{_∙_}
-use Rattle.rdap_c.proofs.Written.{written}
+use Rattle.c_numbers.proofs.Written.{written}
 use borrow.Author.Needs.{needs}
 use Rattle.rdap_c.proofs.rdap_up.Statement.{statement}
 use Rattle.rdap_c.proofs.rdap_up.Tie as tie

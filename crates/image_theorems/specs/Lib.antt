@@ -1,0 +1,3 @@
+pub mod Forest
+pub mod Found
+pub mod Networks
