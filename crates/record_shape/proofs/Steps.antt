@@ -85,7 +85,7 @@ text tag = record { low = 0; high = 255; tag = tag }
 abbrev exactly : ℕ → ℕ → Sought
 exactly size tag = record { low = size; high = size; tag = tag }
 
-abbrev namedSteps : List Sought
+abbrev pub namedSteps : List Sought
 namedSteps = text 0x21 ∷ text 0x22 ∷ []
 
 abbrev pub statusSteps : List Sought

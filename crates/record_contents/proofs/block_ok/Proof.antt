@@ -34,43 +34,50 @@ room a = ranged (now (a .args .image)) (a .args .r) (a .pre .0) (a .pre .1)
 add-start : tie.Need-add-start
 add-start c = omega (arith, room (c .before .before .before .before .before))
 
-wide : (a : tie.Start) → a .args .r .tag ≡ 17 → 16 ≡ widthOf (a .args .r .tag)
-wide a e = rw (eq-eqb (a .args .r .tag) 17 e)
+-- the range of an IPv6 network, and of another block
+module _ (c : tie.Then2) where
+  abbrev wide-start : tie.Start
+  wide-start = c .before .before .before .before .before .before .before
+
+  wide : 16 ≡ widthOf (wide-start .args .r .tag)
+  wide = rw (eq-eqb (wide-start .args .r .tag) 17 (c .if2 .taken))
+
+  wide-room : wide-start .args .r .start + 3 + 2 * 16 ≤ length (now (wide-start .args .image))
+  wide-room = omega (arith, room wide-start, wide)
+
+module _ (c : tie.Else2) where
+  abbrev narrow-start : tie.Start
+  narrow-start = c .before .before .before .before .before .before .before
+
+  narrow : 4 ≡ widthOf (narrow-start .args .r .tag)
+  narrow = rw (ne-eqb (narrow-start .args .r .tag) 17 (c .if2 .left))
+
+  narrow-room : narrow-start .args .r .start + 3 + 2 * 4 ≤ length (now (narrow-start .args .image))
+  narrow-room = omega (arith, room narrow-start, narrow)
 
 add-numbers-at-most : tie.Need-add-numbers-at-most
-add-numbers-at-most c =
-    let a = c .before .before .before .before .before .before .before in
-    omega (arith, room a, wide a (c .if2 .taken))
+add-numbers-at-most c = omega (arith, wide-room c)
 
 numbers-at-most-requires : tie.Need-numbers-at-most-requires
-numbers-at-most-requires c κs =
-    let a = c .before .before .before .before .before .before .before in
-    ((omega arith, λ n. refl), omega (arith, room a, wide a (c .if2 .taken)), omega (arith, room a, wide a (c .if2 .taken)))
+numbers-at-most-requires c κs = ((omega arith, λ n. refl), omega (arith, wide-room c), omega (arith, wide-room c))
 
 returns-2 : tie.Need-returns-2
 returns-2 c =
-    let a = c .before .before .before .before .before .before .before .before in
+    let a = wide-start (c .before) in
     c .numbers-at-most .ensures
-    ∙ good-range (now (a .args .image)) (a .args .r) (a .pre .0) (a .pre .1) (omega (arith, c .before .before .before .before .if1 .left)) 16 (wide a (c .before .if2 .taken))
-
-narrow : (a : tie.Start) → (a .args .r .tag ≡ 17 → ⊥) → 4 ≡ widthOf (a .args .r .tag)
-narrow a n = rw (ne-eqb (a .args .r .tag) 17 n)
+    ∙ good-range (now (a .args .image)) (a .args .r) (a .pre .0) (a .pre .1) (omega (arith, c .before .before .before .before .if1 .left)) 16 (wide (c .before))
 
 add-numbers-at-most-2 : tie.Need-add-numbers-at-most-2
-add-numbers-at-most-2 c =
-    let a = c .before .before .before .before .before .before .before in
-    omega (arith, room a, narrow a (c .if2 .left))
+add-numbers-at-most-2 c = omega (arith, narrow-room c)
 
 numbers-at-most-requires-2 : tie.Need-numbers-at-most-requires-2
-numbers-at-most-requires-2 c κs =
-    let a = c .before .before .before .before .before .before .before in
-    ((omega arith, λ n. absurd (n refl)), omega (arith, room a, narrow a (c .if2 .left)), omega (arith, room a, narrow a (c .if2 .left)))
+numbers-at-most-requires-2 c κs = ((omega arith, λ n. absurd (n refl)), omega (arith, narrow-room c), omega (arith, narrow-room c))
 
 returns-3 : tie.Need-returns-3
 returns-3 c =
-    let a = c .before .before .before .before .before .before .before .before in
+    let a = narrow-start (c .before) in
     c .numbers-at-most2 .ensures
-    ∙ good-range (now (a .args .image)) (a .args .r) (a .pre .0) (a .pre .1) (omega (arith, c .before .before .before .before .if1 .left)) 4 (narrow a (c .before .if2 .left))
+    ∙ good-range (now (a .args .image)) (a .args .r) (a .pre .0) (a .pre .1) (omega (arith, c .before .before .before .before .if1 .left)) 4 (narrow (c .before))
 
 pub block-ok-spec : {M : Type 1} → statement M
 block-ok-spec =

@@ -1,11 +1,47 @@
 -- As for a block, with fields 21 and 22 alone.
-use mathlib.Core.Path.{sym, _∙_}
-use native.Mathlib.Omega.{arith}
+use mathlib.Core.Path.{_≡_, sym, _∙_}
+use mathlib.Core.List.{List}
+use Prim.Native.Nat.{ℕ}
 use denote.Ref.{now}
-use Rattle.record_shape.proofs.Steps.{here, later, over, named-shaped, named-refused}
+use Rattle.fields.specs.Positions.{fieldAt, endBetween}
+use Rattle.fields.specs.declared.End.{End}
+use Rattle.fields.specs.declared.End.the-variants.{At}
+use Rattle.record_shape.specs.Shaped.{Shaped}
+use Rattle.record_shape.specs.declared.Shape.the-variants.{Malformed}
+use Rattle.record_shape.proofs.Steps.{Stops, here, later, over, namedSteps, named-shaped, named-refused}
 use borrow.Author.Needs.{needs}
 use Rattle.record_shape.proofs.shape_of.Statement.{statement}
 use Rattle.record_shape.proofs.shape_of.Tie as tie
+
+-- a record that is no block
+module _ (c : tie.Else1) where
+  abbrev start : tie.Start
+  start = c .before .before
+
+  abbrev image : List ℕ
+  image = now (start .args .image)
+
+  abbrev text : ℕ → ℕ → End
+  text tag at = endBetween 0 255 tag (fieldAt image at (start .args .end))
+
+  refused : Stops image (start .args .end) (start .args .start) namedSteps → Shaped image (start .args .tag) (start .args .start) (start .args .end) Malformed
+  refused = named-refused image (start .args .tag) (start .args .start) (start .args .end) (start .pre .0) (start .pre .1) (c .if1 .left)
+
+-- Where each field ends
+
+module _ (c : tie.After-middle) where
+  abbrev named : tie.Else1
+  named = c .before .before .before
+
+  handle : text named 0x21 (start named .args .start) ≡ At (c .middle .given .0 .0)
+  handle = sym (c .before .before .step .ensures) ∙ c .middle .given .1
+
+module _ (c : tie.After-to) where
+  abbrev handled : tie.After-middle
+  handled = c .before .before .before .before
+
+  name : text (named handled) 0x22 (handled .middle .given .0 .0) ≡ At (c .to .given .0 .0)
+  name = sym (c .before .before .step2 .ensures) ∙ c .to .given .1
 
 block-shape-requires : tie.Need-block-shape-requires
 block-shape-requires c κs = search needs
@@ -23,9 +59,7 @@ enum-told : tie.Need-enum-told
 enum-told c = search needs
 
 returns-2 : tie.Need-returns-2
-returns-2 c =
-    let a = c .before .before .before .before .before in
-    named-refused (now (a .args .image)) (a .args .tag) (a .args .start) (a .args .end) (a .pre .0) (a .pre .1) (omega arith) (here (sym (c .before .before .step .ensures) ∙ c .enum-told .given .1))
+returns-2 c = refused (c .before .before .before) (here (sym (c .before .before .step .ensures) ∙ c .enum-told .given .1))
 
 step-requires-2 : tie.Need-step-requires-2
 step-requires-2 c κs = search needs
@@ -38,27 +72,23 @@ enum-told-2 c = search needs
 
 returns-3 : tie.Need-returns-3
 returns-3 c =
-    let k1 = c .before .before .before in
-    let a = k1 .before .before .before .before .before .before in
-    named-refused (now (a .args .image)) (a .args .tag) (a .args .start) (a .args .end) (a .pre .0) (a .pre .1) (omega arith)
-    (later (sym (k1 .before .before .before .step .ensures) ∙ k1 .before .middle .given .1) (here (sym (c .before .before .step2 .ensures) ∙ c .enum-told2 .given .1)))
+    let h = c .before .before .before .before in
+    refused (named h) (later (handle h) (here (sym (c .before .before .step2 .ensures) ∙ c .enum-told2 .given .1)))
 
 returns-4 : tie.Need-returns-4
 returns-4 c =
-    let k2 = c .before in
-    let k1 = k2 .before .before .before .before in
-    let a = k1 .before .before .before .before .before .before in
-    named-refused (now (a .args .image)) (a .args .tag) (a .args .start) (a .args .end) (a .pre .0) (a .pre .1) (omega arith) (later (sym (k1 .before .before .before .step .ensures) ∙ k1 .before .middle .given .1) (later (sym (k2 .before .before .before .step2 .ensures) ∙ k2 .before .to .given .1) (over (c .if2 .taken))))
+    let n = c .before .before in
+    refused (named (handled n)) (later (handle (handled n)) (later (name n) (over (c .if2 .taken))))
 
 add-t10 : tie.Need-add-t10
 add-t10 c = search needs
 
 returns-5 : tie.Need-returns-5
 returns-5 c =
-    let k2 = c .before in
-    let k1 = k2 .before .before .before .before in
-    let a = k1 .before .before .before .before .before .before in
-    named-shaped (now (a .args .image)) (a .args .tag) (a .args .start) (a .args .end) (a .pre .0) (a .pre .1) (omega arith) _ _ (sym (k1 .before .before .before .step .ensures) ∙ k1 .before .middle .given .1) (sym (k2 .before .before .before .step2 .ensures) ∙ k2 .before .to .given .1) (c .if2 .left)
+    let n = c .before .before in
+    let e = named (handled n) in
+    let a = start e in
+    named-shaped (image e) (a .args .tag) (a .args .start) (a .args .end) (a .pre .0) (a .pre .1) (e .if1 .left) _ _ (handle (handled n)) (name n) (c .if2 .left)
 
 pub shape-of-spec : {M : Type 1} → statement M
 shape-of-spec =
