@@ -12,7 +12,7 @@ use Rattle.octets.specs.Number.{atMost}
 use Rattle.octets.proofs.Order.{after-trans, not-after-itself}
 use Rattle.texts.specs.Compare.{alike}
 use Rattle.registry.specs.declared.Text.{Text}
-use Rattle.texts.proofs.Alike.{alike-itself, alike-others}
+use Rattle.folding.proofs.Alike.{alike-itself, alike-others}
 use Rattle.pattern.specs.Pattern.{matchesForm}
 use Rattle.pattern.specs.declared.Form.the-variants.{Exact}
 use Rattle.records.specs.Record.{Record, sortedAfter, follows}

@@ -4,6 +4,7 @@ use mathlib.Core.List.{List}
 use Prim.Native.Nat.{ℕ, zero, suc, _+_, _*_, _≤_, _<_}
 use lib.Dec.{leb}
 use lib.ListN.{length, getD}
+use Rattle.octets.specs.Positions.{Wide}
 use Rattle.address.specs.Ranges.{Range}
 use Rattle.address.specs.Positions.{rangeIn}
 use Rattle.nesting.specs.declared.Nesting.{Nesting}
@@ -23,3 +24,10 @@ Opened o width stack depth = (d : ℕ) → d < depth → getD stack d 0 + 2 * wi
 -- the last address of open block d
 abbrev pub openLast : List ℕ → ℕ → List ℕ → ℕ → ℕ
 openLast o width stack d = rangeIn o (getD stack d 0) width .last
+
+-- a range that starts at a position of `s`, and those of the open blocks
+pub record NestRoom (s : List ℕ) (start width : ℕ) (o stack : List ℕ) (depth : ℕ) : Type 0 where
+  pub wide : Wide width
+  pub own : start + 2 * width ≤ length s
+  pub few : depth ≤ length stack
+  pub opened : Opened o width stack depth

@@ -5,7 +5,7 @@ ghost use lib.ListN.{length};
 ghost use Rattle.octets.specs.Positions.{Wide};
 ghost use Rattle.address.specs.Ranges.{sortsAfter};
 ghost use Rattle.address.specs.Positions.{rangeIn};
-ghost use Rattle.nesting.specs.Nest.{nestOf, Opened, openLast};
+ghost use Rattle.nesting.specs.Nest.{nestOf, openLast, NestRoom};
 use words::numbers_at_most;
 
 // A block among the open blocks of its tag: under so many of them, or it overlaps one without lying inside it.
@@ -38,7 +38,7 @@ pub fn nest(
     stack: &[u32],
     depth: usize,
 ) -> Nesting
-    requires { ⌜ Wide width × (depth ≤ length (now stack)) × (start + 2 * width ≤ length (now image)) × Opened (now opens) width (now stack) depth ⌝ }
+    requires { ⌜ NestRoom (now image) start width (now opens) (now stack) depth ⌝ }
     ensures { λ r. ⌜ r ≡ nestOf (openLast (now (opens .entry)) width (now (stack .entry))) (rangeIn (now (image .entry)) start width) depth ⌝ }
 {
     let mut d = depth;

@@ -46,7 +46,7 @@ fn good_key(tag: u8, key: &[u8]) -> bool
     if tag == ENTITY {
         return texts::text_ok(key, 0x21);
     }
-    texts::host_ok(key)
+    hosts::host_ok(key)
 }
 
 // Whether this is a record tag's byte and then the bare key of one to remove.

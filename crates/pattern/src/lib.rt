@@ -154,11 +154,11 @@ pub fn pattern_matches(fold: bool, prefix: &[u8], suffix: &[u8], name: &[u8]) ->
     if n - p < q {
         return false;
     }
-    if !texts::same(fold, prefix, &name[..p]) {
+    if !folding::same(fold, prefix, &name[..p]) {
         return false;
     }
     let at = n - q;
-    if !texts::same(fold, suffix, &name[at..]) {
+    if !folding::same(fold, suffix, &name[at..]) {
         return false;
     }
     if q == 0 {
@@ -172,7 +172,7 @@ pub fn form_matches(fold: bool, form: Form, pattern: &[u8], name: &[u8]) -> bool
     ensures { λ r. ⌜ r ≡ matchesForm fold form (now (pattern .entry)) (now (name .entry)) ⌝ }
 {
     match form {
-        Form::Exact => texts::same(fold, pattern, name),
+        Form::Exact => folding::same(fold, pattern, name),
         Form::Asterisk(at) => {
             if at < pattern.len() {
                 pattern_matches(fold, &pattern[..at], &pattern[at + 1..], name)

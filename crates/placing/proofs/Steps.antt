@@ -83,11 +83,8 @@ module _ {b : List ℕ} {p : Layout} {s : List ℕ} {r : Layout} {o stack : List
     module _ (k : r .tag ≤ 18) (w : ℕ) (z : w ≡ widthOf (r .tag)) where
       pub block-room : BlockRoom b (p .start + 3) s (r .start + 3) w o stack depth
       block-room = rw z (record {
-        wide = wide-family (r .tag);
         before = rw (← e) (ranged b p before (omega arith));
-        own = ranged s r (c .laid) k;
-        few = c .open-blocks k e .0;
-        opened = c .open-blocks k e .1;
+        room = record { wide = wide-family (r .tag); own = ranged s r (c .laid) k; few = c .open-blocks k e .0; opened = c .open-blocks k e .1 };
       })
 
       pub step-block : blockStep b (p .start + 3) s (r .start + 3) w o stack depth ≡ stepOn b p s r o stack depth

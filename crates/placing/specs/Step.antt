@@ -7,7 +7,6 @@ use lib.Dec.{eqb}
 use lib.ListN.{length}
 use Rattle.registry.specs.Tags.{isBlock, widthOf, asBlock}
 use Rattle.address.specs.Ranges.{sortsAfter}
-use Rattle.octets.specs.Positions.{Wide}
 use Rattle.address.specs.Positions.{rangeIn}
 use Rattle.records.specs.Record.{Record, rangeOf}
 use Rattle.records.specs.Judge.{inOrder}
@@ -16,7 +15,7 @@ use Rattle.records.specs.Layout.{partsOf, recordOn, LaidOut}
 use Rattle.records.specs.declared.Layout.{Layout}
 use Rattle.nesting.specs.declared.Nesting.{Nesting}
 use Rattle.nesting.specs.declared.Nesting.the-variants.{Under, Crossing}
-use Rattle.nesting.specs.Nest.{nestOf, Opened, openLast}
+use Rattle.nesting.specs.Nest.{nestOf, Opened, openLast, NestRoom}
 use Rattle.placing.specs.declared.Stepped.{Stepped}
 use Rattle.placing.specs.declared.Stepped.the-variants.{Fits, Bad}
 
@@ -35,11 +34,8 @@ stepIn true Crossing = Bad 7
 
 -- a block whose range starts at `start`, after one of its tag, whose range is that of `b` at `from`
 pub record BlockRoom (b : List ℕ) (from : ℕ) (s : List ℕ) (start width : ℕ) (o stack : List ℕ) (depth : ℕ) : Type 0 where
-  pub wide : Wide width
   pub before : from + 2 * width ≤ length b
-  pub own : start + 2 * width ≤ length s
-  pub few : depth ≤ length stack
-  pub opened : Opened o width stack depth
+  pub room : NestRoom s start width o stack depth
 
 abbrev pub blockStep : List ℕ → ℕ → List ℕ → ℕ → ℕ → List ℕ → List ℕ → ℕ → Stepped
 blockStep b from s start width o stack depth =

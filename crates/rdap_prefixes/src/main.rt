@@ -18,6 +18,7 @@ use files::tell_image;
 use files::tell_record;
 use files::write_out;
 use filters::put_filter;
+use folding::equal;
 use image::Verdict;
 use image::index;
 use layouts::Format;
@@ -33,7 +34,6 @@ use registry::MOST_IMAGE;
 use registry::MOST_RECORDS;
 use registry::Part;
 use registry::PerRecord;
-use texts::equal;
 
 // The output: what was put stands at the start of a buffer of 32,768 bytes and room for a list.
 const SPACE: usize = 32768 + filters::ROOM;

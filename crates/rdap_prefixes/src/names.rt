@@ -6,11 +6,11 @@ use crate::networks::is_listed;
 use crate::networks::part_at;
 use crate::networks::start_of;
 use files::part;
+use folding::equal;
 use layouts::Format;
 use layouts::put_name;
 use registry::Part;
 use registry::PerRecord;
-use texts::equal;
 use words::wide;
 
 // The name of the list of the network that starts at a position.

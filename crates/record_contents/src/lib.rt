@@ -19,7 +19,7 @@ fn name_ok(image: &[u8], tag: u8, start: usize, end: usize) -> bool
     ensures { λ r. ⌜ r ≡ goodName tag (slice start end (now (image .entry))) ⌝ }
 {
     if (DOMAIN <= tag) & (tag <= NAMESERVER) {
-        return texts::host_ok(&image[start..end]);
+        return hosts::host_ok(&image[start..end]);
     }
     texts::name_ok(&image[start..end])
 }

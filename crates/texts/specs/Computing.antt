@@ -3,8 +3,7 @@ use Rattle.address.specs.Computing as Address
 use Rattle.texts.specs.Host.{isLabelByte, isLabel, isHostName, fold, withoutFinalDot, hostOf}
 use Rattle.texts.specs.Texts.{goodText, goodHost}
 use Rattle.texts.specs.Compare.{foldIf, alike}
-use Rattle.texts.specs.HostScan.{letterOrDigit, labelsFrom}
 
 unfoldable pub computing : Unit {0}
-unfolding Address.computing isLabelByte isLabel isHostName fold withoutFinalDot hostOf goodText goodHost foldIf alike letterOrDigit labelsFrom
+unfolding Address.computing isLabelByte isLabel isHostName fold withoutFinalDot hostOf goodText goodHost foldIf alike
 computing = tt

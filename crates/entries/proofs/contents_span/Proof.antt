@@ -22,36 +22,39 @@ enum-told-2 c = search needs
 
 range-span-requires : tie.Need-range-span-requires
 range-span-requires c κs =
-    end-inside _ _ _ (c .before .before .before .before .before .read .ensures) _ _ _ (c .before .before .before .tag .given .1)
+    let f = c .before .before .before in
+    end-inside _ _ _ (f .before .before .read .ensures) _ _ _ (f .tag .given .1)
 
 enum-told-3 : tie.Need-enum-told-3
 enum-told-3 c = search needs
 
 handle-span-requires : tie.Need-handle-span-requires
 handle-span-requires c κs =
-    end-inside _ _ _ (c .before .before .before .before .before .read .ensures) _ _ _ (c .before .before .before .tag .given .1)
+    let f = c .before .before .before in
+    end-inside _ _ _ (f .before .before .read .ensures) _ _ _ (f .tag .given .1)
 
 enum-told-4 : tie.Need-enum-told-4
 enum-told-4 c = search needs
 
 name-span-requires : tie.Need-name-span-requires
 name-span-requires c κs =
-    end-inside _ _ _ (c .before .before .before .before .before .read .ensures) _ _ _ (c .before .before .before .tag .given .1)
+    let f = c .before .before .before in
+    end-inside _ _ _ (f .before .before .read .ensures) _ _ _ (f .tag .given .1)
 
 returns-2 : tie.Need-returns-2
 returns-2 c =
-    contents-read _ _ _ (c .before .before .before .before .before .before .read .ensures) _ _ _ (c .before .before .before .before .tag .given .1)
-    _ Range (c .before .enum-told2 .given .1) (c .range-span .ensures)
+    let f = c .before .before .before .before in
+    contents-read _ _ _ (f .before .before .read .ensures) _ _ _ (f .tag .given .1) _ Range (c .before .enum-told2 .given .1) (c .range-span .ensures)
 
 returns-3 : tie.Need-returns-3
 returns-3 c =
-    contents-read _ _ _ (c .before .before .before .before .before .before .read .ensures) _ _ _ (c .before .before .before .before .tag .given .1)
-    _ Handle (c .before .enum-told3 .given .1) (c .handle-span .ensures)
+    let f = c .before .before .before .before in
+    contents-read _ _ _ (f .before .before .read .ensures) _ _ _ (f .tag .given .1) _ Handle (c .before .enum-told3 .given .1) (c .handle-span .ensures)
 
 returns-4 : tie.Need-returns-4
 returns-4 c =
-    contents-read _ _ _ (c .before .before .before .before .before .before .read .ensures) _ _ _ (c .before .before .before .before .tag .given .1)
-    _ Name (c .before .enum-told4 .given .1) (c .name-span .ensures)
+    let f = c .before .before .before .before in
+    contents-read _ _ _ (f .before .before .read .ensures) _ _ _ (f .tag .given .1) _ Name (c .before .enum-told4 .given .1) (c .name-span .ensures)
 
 pub contents-span-spec : {M : Type 1} → statement M
 contents-span-spec =

@@ -1,6 +1,5 @@
 -- A test that fails leaves no such field, and where all hold there is one (Fields.antt).
 use native.Mathlib.Omega.{arith}
-use denote.Ref.{now}
 use Rattle.fields.proofs.Fields.{none-ends, one-ends}
 use borrow.Author.Needs.{needs}
 use Rattle.fields.proofs.step_to.Statement.{statement}

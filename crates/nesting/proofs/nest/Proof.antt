@@ -42,7 +42,7 @@ range a = rangeIn (now (a .args .image)) (a .args .start) (a .args .width)
 
 -- the open block lies where it should
 room : (c : tie.After-shared-slice-known4 Inv-loop μ-loop) → getD (now (top c .args .stack)) (c .before .before .loop .d - 1) 0 + 2 * top c .args .width ≤ length (now (top c .args .opens))
-room c = top c .pre .3 (c .before .before .loop .d - 1) (omega (arith, c .before .before .loop .inv .0, c .before .loop-test .taken))
+room c = top c .pre .opened (c .before .before .loop .d - 1) (omega (arith, c .before .before .loop .inv .0, c .before .loop-test .taken))
 
 cast-last : tie.Need-cast-last Inv-loop μ-loop
 cast-last c = omega (arith, room c)
@@ -51,7 +51,7 @@ add-last : tie.Need-add-last Inv-loop μ-loop
 add-last c = omega (arith, room c)
 
 numbers-at-most-requires : tie.Need-numbers-at-most-requires Inv-loop μ-loop
-numbers-at-most-requires c κs = (top c .pre .0, omega arith, omega (arith, room c))
+numbers-at-most-requires c κs = (top c .pre .wide, omega arith, omega (arith, room c))
 
 add-numbers-at-most : tie.Need-add-numbers-at-most Inv-loop μ-loop
 add-numbers-at-most c = search needs
@@ -59,7 +59,7 @@ add-numbers-at-most c = search needs
 numbers-at-most-requires-2 : tie.Need-numbers-at-most-requires-2 Inv-loop μ-loop
 numbers-at-most-requires-2 c κs =
     let e = c .before .before in
-    (top e .pre .0, omega arith, omega (arith, room e))
+    (top e .pre .wide, omega arith, omega (arith, room e))
 
 returns : tie.Need-returns Inv-loop μ-loop
 returns c =

@@ -2,27 +2,39 @@
 use mathlib.Core.Path.{sym, _∙_}
 use borrow.Author.Tests.{not-true, not-false}
 use denote.Ref.{now}
+use Rattle.address.specs.Ranges.{Range}
 use Rattle.address.specs.Positions.{rangeIn}
 use Rattle.nesting.proofs.Families.{after-first, before-first, same-first}
 use borrow.Author.Needs.{needs}
 use Rattle.nesting.proofs.range_after.Statement.{statement}
 use Rattle.nesting.proofs.range_after.Tie as tie
 
+-- the two ranges
+abbrev start : tie.After-numbers-at-most → tie.Start
+start m = m .before .before .before
+
+abbrev earlier : tie.After-numbers-at-most → Range
+earlier m = rangeIn (now (start m .args .a)) (start m .args .p) (start m .args .width)
+
+abbrev later : tie.After-numbers-at-most → Range
+later m = rangeIn (now (start m .args .b)) (start m .args .q) (start m .args .width)
+
 numbers-at-most-requires : tie.Need-numbers-at-most-requires
 numbers-at-most-requires c κs = search needs
 
 returns : tie.Need-returns
 returns c =
-    let a = c .before .before .before .before .args in
-    after-first (rangeIn (now (a .a)) (a .p) (a .width)) (rangeIn (now (a .b)) (a .q) (a .width)) (sym (c .before .numbers-at-most .ensures) ∙ not-true _ (c .if1 .taken))
+    let m = c .before in
+    after-first (earlier m) (later m) (sym (m .numbers-at-most .ensures) ∙ not-true _ (c .if1 .taken))
 
 numbers-at-most-requires-2 : tie.Need-numbers-at-most-requires-2
 numbers-at-most-requires-2 c κs = search needs
 
 returns-2 : tie.Need-returns-2
 returns-2 c =
-    let a = c .before .before .before .before .before .before .args in
-    before-first (rangeIn (now (a .a)) (a .p) (a .width)) (rangeIn (now (a .b)) (a .q) (a .width)) (sym (c .before .before .before .numbers-at-most .ensures) ∙ not-false _ (c .before .before .if1 .left))
+    let i = c .before .before in
+    let m = i .before in
+    before-first (earlier m) (later m) (sym (m .numbers-at-most .ensures) ∙ not-false _ (i .if1 .left))
     (sym (c .before .numbers-at-most2 .ensures) ∙ not-true _ (c .if2 .taken))
 
 add-numbers-at-most : tie.Need-add-numbers-at-most
@@ -36,8 +48,9 @@ numbers-at-most-requires-3 c κs = search needs
 
 returns-3 : tie.Need-returns-3
 returns-3 c =
-    let a = c .before .before .before .before .before .before .before .args in
-    same-first (rangeIn (now (a .a)) (a .p) (a .width)) (rangeIn (now (a .b)) (a .q) (a .width)) (sym (c .before .before .before .before .numbers-at-most .ensures) ∙ not-false _ (c .before .before .before .if1 .left))
+    let i = c .before .before .before in
+    let m = i .before in
+    same-first (earlier m) (later m) (sym (m .numbers-at-most .ensures) ∙ not-false _ (i .if1 .left))
     (sym (c .before .before .numbers-at-most2 .ensures) ∙ not-false _ (c .before .if2 .left)) _ (c .numbers-at-most3 .ensures)
 
 pub range-after-spec : {M : Type 1} → statement M

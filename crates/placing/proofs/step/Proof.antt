@@ -53,7 +53,7 @@ add-from c =
 add-start : tie.Need-add-start
 add-start c =
     let e = c .before .before in
-    omega (arith, block-room (top e .pre) (e .if4 .left) (e .before .if1 .left) _ refl .own)
+    omega (arith, block-room (top e .pre) (e .if4 .left) (e .before .if1 .left) _ refl .room .own)
 
 abbrev block : tie.After-struct-known2 → tie.Else4
 block c = c .before .before

@@ -1,0 +1,111 @@
+-- `same`: what is left of both texts is alike exactly if they are; the measure is the bytes that are left.
+use mathlib.Core.Path.{_≡_, refl, sym, _∙_}
+use Prim.Native.Nat.{_≤_, _-_}
+use native.Mathlib.Omega.{arith}
+use lib.ListN.{length, drop}
+use denote.Ref.{now}
+use borrow.Author.Tests.{not-true, not-false}
+use borrow.Author.Needs.{needs}
+use Rattle.texts.specs.Compare.{alike}
+use Rattle.folding.proofs.Alike.{alike-length, alike-not, alike-on, alike-after, alike-end}
+use Rattle.folding.proofs.same.Statement.{statement}
+use Rattle.folding.proofs.same.Tie as tie
+
+abbrev Inv-loop : tie.InvT-loop
+Inv-loop fold a b n i₀ i = (i ≤ n) × (n ≡ length a) × (n ≡ length b) × (alike fold (drop i a) (drop i b) ≡ alike fold a b)
+
+abbrev μ-loop : tie.MeasureT-loop
+μ-loop fold a b n i₀ i = n - i
+
+returns : tie.Need-returns Inv-loop μ-loop
+returns c = alike-length _ _ _ (c .if1 .taken)
+
+returns-2 : tie.Need-returns-2 Inv-loop μ-loop
+returns-2 c =
+    let a = c .before .before .before .before .args in
+    sym (alike-end (a .fold) (now (a .a)) (now (a .b)) 0 (omega arith) (omega arith))
+
+sub-same-byte : tie.Need-sub-same-byte Inv-loop μ-loop
+sub-same-byte c = search needs
+
+shared-slice-read-same-byte : tie.Need-shared-slice-read-same-byte Inv-loop μ-loop
+shared-slice-read-same-byte c = search needs
+
+sub-same-byte-2 : tie.Need-sub-same-byte-2 Inv-loop μ-loop
+sub-same-byte-2 c = search needs
+
+shared-slice-read-same-byte-2 : tie.Need-shared-slice-read-same-byte-2 Inv-loop μ-loop
+shared-slice-read-same-byte-2 c = search needs
+
+same-byte-requires : tie.Need-same-byte-requires Inv-loop μ-loop
+same-byte-requires c κs = search needs
+
+returns-3 : tie.Need-returns-3 Inv-loop μ-loop
+returns-3 c =
+    let a = c .before .before .before .before .before .before .before .before .args in
+    let n = length (now (a .a)) in
+    alike-not (a .fold) (now (a .a)) (now (a .b)) (n - 1) (omega arith) (omega arith) (sym (c .before .same-byte .ensures) ∙ not-true _ (c .if3 .taken))
+
+same-eights-requires : tie.Need-same-eights-requires Inv-loop μ-loop
+same-eights-requires c κs = search needs
+
+loop-holds : tie.Need-loop-holds Inv-loop μ-loop
+loop-holds c =
+    let a = c .before .before .before .before .before .before .before .before .before .args in
+    let e = c .same-eights .ensures in
+    (e .0, refl, omega arith, alike-after (a .fold) (now (a .a)) (now (a .b)) (c .same-eights .result) (e .0) (omega arith) (e .1))
+
+shared-slice-read-same-byte-3 : tie.Need-shared-slice-read-same-byte-3 Inv-loop μ-loop
+shared-slice-read-same-byte-3 c = search needs
+
+shared-slice-read-same-byte-4 : tie.Need-shared-slice-read-same-byte-4 Inv-loop μ-loop
+shared-slice-read-same-byte-4 c = search needs
+
+same-byte-requires-2 : tie.Need-same-byte-requires-2 Inv-loop μ-loop
+same-byte-requires-2 c κs = search needs
+
+returns-4 : tie.Need-returns-4 Inv-loop μ-loop
+returns-4 c =
+    let a = c .before .before .before .before .before .before .before .before .before .before .before .before .before .before .before .args in
+    alike-not (a .fold) (now (a .a)) (now (a .b)) (c .before .before .before .before .before .loop .i) (omega arith) (omega arith) (sym (c .before .same-byte2 .ensures) ∙ not-true _ (c .if4 .taken))
+
+add-i : tie.Need-add-i Inv-loop μ-loop
+add-i c = search needs
+
+loop-less : tie.Need-loop-less Inv-loop μ-loop
+loop-less c = search needs
+
+loop-again : tie.Need-loop-again Inv-loop μ-loop
+loop-again c =
+    let a = c .before .before .before .before .before .before .before .before .before .before .before .before .before .before .before .args in
+    (omega arith, c .before .before .before .before .before .loop .inv .1, c .before .before .before .before .before .loop .inv .2, sym (alike-on (a .fold) (now (a .a)) (now (a .b)) (c .before .before .before .before .before .loop .i) (omega arith) (omega arith) (sym (c .before .same-byte2 .ensures) ∙ not-false _ (c .if4 .left))) ∙ c .before .before .before .before .before .loop .inv .3)
+
+returns-5 : tie.Need-returns-5 Inv-loop μ-loop
+returns-5 c =
+    let a = c .before .before .before .before .before .before .before .before .before .before .before .args in
+    sym (alike-end (a .fold) (now (a .a)) (now (a .b)) (c .before .loop .i) (omega arith) (omega arith)) ∙ c .before .loop .inv .3
+
+pub same-spec : {M : Type 1} → statement M
+same-spec =
+    tie.close
+    (tie.spec
+    Inv-loop
+    μ-loop
+    returns
+    returns-2
+    sub-same-byte
+    shared-slice-read-same-byte
+    sub-same-byte-2
+    shared-slice-read-same-byte-2
+    same-byte-requires
+    returns-3
+    same-eights-requires
+    loop-holds
+    shared-slice-read-same-byte-3
+    shared-slice-read-same-byte-4
+    same-byte-requires-2
+    returns-4
+    add-i
+    loop-less
+    loop-again
+    returns-5)

@@ -1,0 +1,3 @@
+pub mod HostScan
+pub mod Labels
+pub mod Hosts

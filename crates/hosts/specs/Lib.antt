@@ -1,0 +1,2 @@
+pub mod HostScan
+pub mod Pairs
