@@ -9,13 +9,13 @@ ghost use Rattle.numeral.specs.Digits.{spelled};
 ghost use Rattle.output.specs.Writing.{Written};
 ghost use Rattle.ip_groups.specs.Groups.{longestRun, runAt};
 ghost use Rattle.ip_text.specs.Text.{colons, dotted, shortened, ipv6Text, textOf};
-ghost use Rattle.digits.specs.Base.{radix};
-use digits::Base;
-use digits::put_spelled;
+ghost use Rattle.separated.specs.Base.{radix};
 use ip_groups::groups_of;
 use ip_groups::octets_of;
 use ip_groups::zero_runs;
 use output::put_bytes;
+use separated::Base;
+use separated::put_spelled;
 
 // Given bytes, and numbers in the rest of the text after them.
 fn put_after(front: &[u8], sep: u8, base: Base, numbers: &[u32], text: &mut [u8]) -> usize

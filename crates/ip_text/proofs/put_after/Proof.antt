@@ -3,7 +3,7 @@ use Rattle.output.proofs.Writing.{written-both}
 use borrow.Author.Needs.{needs}
 use Rattle.ip_text.proofs.put_after.Statement.{statement}
 use Rattle.ip_text.proofs.put_after.Tie as tie
-use Rattle.digits.proofs.put_spelled.Reads as put-spelled-reads
+use Rattle.separated.proofs.put_spelled.Reads as put-spelled-reads
 use Rattle.output.proofs.put_bytes.Reads as put-bytes-reads
 
 put-bytes-requires : tie.Need-put-bytes-requires

@@ -10,7 +10,7 @@ use Rattle.output.proofs.Writing.{written-both, rest-length}
 use borrow.Author.Needs.{needs}
 use Rattle.ip_text.proofs.put_elided.Statement.{statement}
 use Rattle.ip_text.proofs.put_elided.Tie as tie
-use Rattle.digits.proofs.put_spelled.Reads as put-spelled-reads
+use Rattle.separated.proofs.put_spelled.Reads as put-spelled-reads
 
 size : (left right : List ℕ) → length (colons left ++ (ascii "::" ++ colons right)) ≡ length (colons left) + (2 + length (colons right))
 unfolding ascii

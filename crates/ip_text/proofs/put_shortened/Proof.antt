@@ -7,7 +7,7 @@ use Rattle.ip_text.proofs.Forms.{run-inside, plain-form, short-form}
 use borrow.Author.Needs.{needs}
 use Rattle.ip_text.proofs.put_shortened.Statement.{statement}
 use Rattle.ip_text.proofs.put_shortened.Tie as tie
-use Rattle.digits.proofs.put_spelled.Reads as put-spelled-reads
+use Rattle.separated.proofs.put_spelled.Reads as put-spelled-reads
 
 put-spelled-requires : tie.Need-put-spelled-requires
 put-spelled-requires c κs =
