@@ -28,7 +28,9 @@ same-length : tie.Need-same-length
 same-length c = search needs
 
 returns : tie.Need-returns
-returns c = written-both (c .before .before .before .before .before .before .put-bytes .ensures) (c .before .before .put-spelled .ensures)
+returns c =
+    let numbers = c .before .before in
+    written-both (numbers .before .before .before .before .put-bytes .ensures) (numbers .put-spelled .ensures)
 
 pub put-after-spec : {M : Type 1} → statement M
 put-after-spec =
