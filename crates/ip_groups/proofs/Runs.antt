@@ -75,8 +75,7 @@ runs-all {gs} {i} z r =
     let e : drop i gs ≡ gs = ap (λ (k : ℕ). drop k gs) z in
     record {
       front = r .front ∙ ap zerosFirst e;
-      most = r .most ∙ ap longestRun e;
-      found-at = r .found-at ∙ omega (arith, ap (λ (l : List ℕ). runAt (longestRun l) l) e);
+      run = record { most = r .most ∙ ap longestRun e; found-at = r .found-at ∙ omega (arith, ap (λ (l : List ℕ). runAt (longestRun l) l) e) };
     }
 
 zeros-most : (gs : List ℕ) → zerosFirst gs ≤ length gs

@@ -9,8 +9,12 @@ abbrev pub bytesOf : List ℕ → List ℕ
 bytesOf [] = []
 bytesOf (g ∷ gs) = g / 256 ∷ g % 256 ∷ bytesOf gs
 
--- the zeros that stand first, and the longest run of zeros with its place
-pub record RunsOf (gs : List ℕ) (first longest at : ℕ) : Type 0 where
-  pub front : first ≡ zerosFirst gs
+-- the longest run of zeros, and its place
+pub record LongestRun (gs : List ℕ) (longest at : ℕ) : Type 0 where
   pub most : longest ≡ longestRun gs
   pub found-at : at ≡ runAt (longestRun gs) gs
+
+-- the zeros that stand first, and that run
+pub record RunsOf (gs : List ℕ) (first longest at : ℕ) : Type 0 where
+  pub front : first ≡ zerosFirst gs
+  pub run : LongestRun gs longest at

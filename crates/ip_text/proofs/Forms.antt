@@ -11,27 +11,27 @@ use Rattle.octets.proofs.Pieces.{rest-is}
 use Rattle.octets.proofs.Connectives.{and-false}
 use Rattle.ip_groups.specs.Groups.{groupsOf, zerosFirst, longestRun, runAt}
 use Rattle.ip_text.specs.Text.{dotted, colons, shortened, isMapped, ipv6Text}
-use Rattle.ip_groups.specs.Runs.{RunsOf}
+use Rattle.ip_groups.specs.Runs.{LongestRun, RunsOf}
 use Rattle.ip_groups.proofs.Runs.{beside-run}
 
 -- groups with their longest run, and its place
-module _ (gs : List ℕ) (longest at : ℕ) (most : longest ≡ longestRun gs) (found-at : at ≡ runAt (longestRun gs) gs) where
+module _ {gs : List ℕ} {longest at : ℕ} (run : LongestRun gs longest at) where
   sides : length (take at gs) + (longest + length (drop (at + longest) gs)) ≡ length gs
-  sides = rw (found-at, most) (beside-run gs)
+  sides = rw (run .found-at, run .most) (beside-run gs)
 
   pub run-inside : 2 ≤ longest → at + longest ≤ length gs
   run-inside h = omega (arith, sides, length-take at gs, length-drop (at + longest) gs)
 
   pub plain-form : longest < 2 → colons gs ≡ shortened gs
   unfolding shortened
-  plain-form h = let l : longestRun gs < 2 = omega arith in rw (lt-leb 2 (longestRun gs) l)
+  plain-form h = let l : longestRun gs < 2 = omega (arith, run .most) in rw (lt-leb 2 (longestRun gs) l)
 
   pub short-form : 2 ≤ longest
       → colons (take at gs) ++ (ascii "::" ++ colons (take (length gs - (at + longest)) (drop (at + longest) gs))) ≡ shortened gs
   unfolding shortened
   short-form h =
-      let l : 2 ≤ longestRun gs = omega arith in
-      rw (rest-is gs (at + longest), found-at, most, le-leb 2 (longestRun gs) l)
+      let l : 2 ≤ longestRun gs = omega (arith, run .most) in
+      rw (rest-is gs (at + longest), run .found-at, run .most, le-leb 2 (longestRun gs) l)
 
 -- an address of sixteen bytes, by its groups
 module _ (a : List ℕ) {groups : List ℕ} {first longest at : ℕ} (is : groups ≡ groupsOf a) (runs : RunsOf groups first longest at) where

@@ -7,15 +7,15 @@ ghost use Rattle.octets.specs.Ascii.{ascii};
 ghost use Rattle.octets.specs.Positions.{Wide};
 ghost use Rattle.numeral.specs.Digits.{spelled};
 ghost use Rattle.output.specs.Writing.{Written};
-ghost use Rattle.ip_groups.specs.Groups.{longestRun, runAt};
+ghost use Rattle.ip_groups.specs.Runs.{LongestRun};
 ghost use Rattle.ip_text.specs.Text.{colons, dotted, shortened, ipv6Text, textOf};
-ghost use Rattle.digits.specs.Base.{radix};
-use digits::Base;
-use digits::put_spelled;
+ghost use Rattle.separated.specs.Base.{radix};
 use ip_groups::groups_of;
 use ip_groups::octets_of;
 use ip_groups::zero_runs;
 use output::put_bytes;
+use separated::Base;
+use separated::put_spelled;
 
 // Given bytes, and numbers in the rest of the text after them.
 fn put_after(front: &[u8], sep: u8, base: Base, numbers: &[u32], text: &mut [u8]) -> usize
@@ -37,7 +37,7 @@ fn put_elided(left: &[u32], right: &[u32], text: &mut [u8]) -> usize
 
 // The longest run of at least two zero groups shortened.
 fn put_shortened(groups: &[u32], longest: usize, at: usize, text: &mut [u8]) -> usize
-    requires { ⌜ (longest ≡ longestRun (now groups)) × (at ≡ runAt (longestRun (now groups)) (now groups)) × (length (shortened (now groups)) ≤ length (now text)) ⌝ }
+    requires { ⌜ LongestRun (now groups) longest at × (length (shortened (now groups)) ≤ length (now text)) ⌝ }
     ensures { λ r. ⌜ Written (shortened (now (groups .entry))) (now (text .entry)) (now (text .exit)) r ⌝ }
 {
     if longest < 2 {

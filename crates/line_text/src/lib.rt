@@ -5,9 +5,9 @@ ghost use Rattle.answers.specs.Answered.{replyOf};
 ghost use Rattle.output.specs.Writing.{Written};
 ghost use Rattle.line_text.specs.Line.{lineText};
 use answers::Answer;
-use digits::Base;
-use digits::put_following;
-use digits::put_spelled;
+use separated::Base;
+use separated::put_following;
+use separated::put_spelled;
 
 // The line of an answer that reports the first record numbers of the list, so many.
 pub fn put_line(a: Answer, list: &[u32], reported: usize, out: &mut [u8]) -> usize

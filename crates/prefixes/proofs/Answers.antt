@@ -3,7 +3,7 @@ use Prim.Native.Nat.{ℕ, _+_, _*_, _^_, _≤_, _<_}
 use mathlib.Core.Bool.{Bool, true, false, cond}
 use mathlib.Core.Option.{none, some}
 use mathlib.Core.Path.{_≡_, refl, sym, ap, subst, _∙_}
-use mathlib.Core.List.{List, _++_}
+use mathlib.Core.List.{List}
 use native.Mathlib.Omega.{arith}
 use borrow.Author.Tests.{le-leb, lt-leb, eq-eqb, ne-eqb, eqb-true}
 use lib.Dec.{eqb}
@@ -23,9 +23,9 @@ use Rattle.prefix_bytes.specs.Entry.{entriesOf}
 use Rattle.prefixes.specs.Call.{IpRange, ipRange, ipRangeOf, prefixesIn, entriesIn, prefixedOf, bufferAfter}
 use Rattle.prefixes.specs.Answers.{AnswersShortest}
 use Rattle.next_prefix.specs.Walked.{wordsRange, walked}
-use Rattle.prefixes.specs.Entries.{Ordered}
+use Rattle.prefix_walk.specs.Entries.{Ordered}
 use Rattle.prefix_bytes.proofs.Widths.{by-width}
-use Rattle.prefixes.proofs.Room.{at-width}
+use Rattle.prefix_walk.proofs.Few.{at-width}
 
 -- a range of two addresses of so many bytes
 module _ (s : List ℕ) (width : ℕ) (long : length s ≡ 2 * width) where

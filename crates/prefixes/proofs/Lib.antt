@@ -1,4 +1,2 @@
-pub mod Falling
-pub mod Writing
 pub mod Room
 pub mod Answers

@@ -1,7 +1,7 @@
 -- How many entries a range has, and how much room they need.
 use Prim.Native.Nat.{ℕ, _+_, _-_, _*_, _≤_, _<_}
 use mathlib.Core.Bool.{Bool, true, false, cond}
-use mathlib.Core.Path.{_≡_, refl, sym, _∙_}
+use mathlib.Core.Path.{_≡_, refl}
 use mathlib.Core.List.{List}
 use native.Mathlib.Omega.{arith}
 use native.Mathlib.Nat.{mul-le-mul-right}
@@ -10,32 +10,23 @@ use lib.Dec.{ltb}
 use lib.ListN.{length}
 use Rattle.octets.specs.Positions.{Wide}
 use Rattle.octets.specs.declared.Words.{Words}
-use Rattle.cidr.specs.Prefixes.{Prefix, prefixesOf}
-use Rattle.cidr.proofs.Greedy.{wider}
-use Rattle.cidr.proofs.Theorem.{shortest}
+use Rattle.cidr.specs.Prefixes.{Prefix}
 use Rattle.prefix_bytes.specs.Entry.{entriesOf}
-use Rattle.next_prefix.specs.Walked.{wordsRange, walked}
-use Rattle.prefixes.specs.Entries.{Ordered, fitOf}
+use Rattle.next_prefix.specs.Walked.{walked}
+use Rattle.prefix_walk.specs.Entries.{Ordered}
+use Rattle.prefix_walk.proofs.Few.{few}
+use Rattle.prefixes.specs.Fitting.{fitOf}
 use Rattle.prefixes.specs.declared.Fit.the-variants.{Enough, Short}
-use Rattle.prefix_bytes.proofs.Widths.{by-width, at-most-sixteen, length-entries}
+use Rattle.prefix_bytes.proofs.Widths.{by-width, length-entries}
 
 pub room-fits : {width : ℕ} → Wide width → (16 * width - 2) * (width + 1) < 18446744073709551616
 room-fits w = by-width w (λ (k : ℕ). (16 * k - 2) * (k + 1) < 18446744073709551616) (omega arith) (omega arith)
 
 module _ {width : ℕ} {first last : Words} (o : Ordered width first last) where
-  -- the code walks at 128 bits
-  pub at-width : prefixesOf (8 * width) (wordsRange first last) ≡ walked first last
-  at-width =
-      let e : 128 - 8 * width + 8 * width ≡ 128 = omega (arith, at-most-sixteen (o .wide)) in
-      sym (wider (wordsRange first last) (8 * width) (128 - 8 * width) (o .below)) ∙ rw e
-
-  pub few : length (walked first last) ≤ 16 * width - 2
-  few = omega (arith, rw at-width at (shortest (8 * width) (wordsRange first last) (o .below) .few (omega (arith, o .wide .0))))
-
   -- counted
   module _ {n : ℕ} (counted : n ≡ length (walked first last)) where
     pub product-fits : n * (width + 1) < 18446744073709551616
-    product-fits = rw counted (omega (arith, room-fits (o .wide), mul-le-mul-right (width + 1) few))
+    product-fits = rw counted (omega (arith, room-fits (o .wide), mul-le-mul-right (width + 1) (few o)))
 
     size : length (entriesOf width (walked first last)) ≡ n * (width + 1)
     size = rw counted (length-entries width (walked first last))
@@ -47,7 +38,7 @@ module _ {width : ℕ} {first last : Words} (o : Ordered width first last) where
     too-short {bytes} h = rw (size, lt-ltb bytes (n * (width + 1)) h, counted)
 
   pub ample : {bytes : ℕ} → (16 * width - 2) * (width + 1) ≤ bytes → Enough ≡ fitOf width bytes (walked first last)
-  ample h = enough refl (omega (arith, mul-le-mul-right (width + 1) few))
+  ample h = enough refl (omega (arith, mul-le-mul-right (width + 1) (few o)))
 
 -- what the check tells
 module _ (width room : ℕ) (ps : List Prefix) where

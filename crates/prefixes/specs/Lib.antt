@@ -1,5 +1,5 @@
 pub mod Call
 pub mod Answers
-pub mod Entries
+pub mod Fitting
 pub mod Computing
 pub mod Examples

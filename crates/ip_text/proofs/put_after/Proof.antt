@@ -3,7 +3,7 @@ use Rattle.output.proofs.Writing.{written-both}
 use borrow.Author.Needs.{needs}
 use Rattle.ip_text.proofs.put_after.Statement.{statement}
 use Rattle.ip_text.proofs.put_after.Tie as tie
-use Rattle.digits.proofs.put_spelled.Reads as put-spelled-reads
+use Rattle.separated.proofs.put_spelled.Reads as put-spelled-reads
 use Rattle.output.proofs.put_bytes.Reads as put-bytes-reads
 
 put-bytes-requires : tie.Need-put-bytes-requires
@@ -28,7 +28,9 @@ same-length : tie.Need-same-length
 same-length c = search needs
 
 returns : tie.Need-returns
-returns c = written-both (c .before .before .before .before .before .before .put-bytes .ensures) (c .before .before .put-spelled .ensures)
+returns c =
+    let numbers = c .before .before in
+    written-both (numbers .before .before .before .before .put-bytes .ensures) (numbers .put-spelled .ensures)
 
 pub put-after-spec : {M : Type 1} → statement M
 put-after-spec =

@@ -1,5 +1,5 @@
 -- The groups on the left, and "::" with those on the right in the rest of the buffer.
-use Prim.Native.Nat.{ℕ, _+_}
+use Prim.Native.Nat.{ℕ, _+_, _≤_}
 use mathlib.Core.Path.{_≡_, _∙_}
 use mathlib.Core.List.{List, _++_}
 use native.Mathlib.Omega.{arith}
@@ -10,7 +10,7 @@ use Rattle.output.proofs.Writing.{written-both, rest-length}
 use borrow.Author.Needs.{needs}
 use Rattle.ip_text.proofs.put_elided.Statement.{statement}
 use Rattle.ip_text.proofs.put_elided.Tie as tie
-use Rattle.digits.proofs.put_spelled.Reads as put-spelled-reads
+use Rattle.separated.proofs.put_spelled.Reads as put-spelled-reads
 
 size : (left right : List ℕ) → length (colons left ++ (ascii "::" ++ colons right)) ≡ length (colons left) + (2 + length (colons right))
 unfolding ascii
@@ -21,31 +21,36 @@ put-spelled-requires c κs =
     let a = c .before .before .before .before .args in
     omega (arith, c .before .before .before .before .pre, size (a .left .now) (a .right .now))
 
+-- what was asked, and what the left side has taken of it
+abbrev start : tie.After-put-spelled → tie.Start
+start c = c .before .before .before .before .before
+
+room : (c : tie.After-put-spelled) → let a = start c .args in c .put-spelled .result + (2 + length (colons (a .right .now))) ≤ length (a .text .now)
+room c =
+    let a = start c .args in
+    omega (arith, start c .pre, size (a .left .now) (a .right .now), c .put-spelled .ensures .size)
+
+abbrev left : tie.After-put-after → tie.After-put-spelled
+left c = c .before .before .before .before .before
+
 slice-aggregate-put-after : tie.Need-slice-aggregate-put-after
 slice-aggregate-put-after c = search needs
 
 sub-put-after : tie.Need-sub-put-after
-sub-put-after c =
-    let a = c .before .before .before .before .before .before .before .before .args in
-    omega (arith, c .before .before .before .before .before .before .before .before .pre, size (a .left .now) (a .right .now), c .before .before .before .put-spelled .ensures .size)
+sub-put-after c = omega (arith, room (c .before .before .before))
 
 part-put-after-start : tie.Need-part-put-after-start
-part-put-after-start c =
-    let a = c .before .before .before .before .before .before .before .before .args in
-    omega (arith, c .before .before .before .before .before .before .before .before .pre, size (a .left .now) (a .right .now), c .before .before .before .put-spelled .ensures .size)
+part-put-after-start c = omega (arith, room (c .before .before .before))
 
 part-put-after-end : tie.Need-part-put-after-end
 part-put-after-end c = search needs
 
 put-after-requires : tie.Need-put-after-requires
-put-after-requires c κs =
-    let a = c .before .before .before .before .before .before .before .before .before .args in
-    rw rest-length (omega (arith, c .before .before .before .before .before .before .before .before .before .pre, size (a .left .now) (a .right .now), c .before .before .before .before .put-spelled .ensures .size))
+put-after-requires c κs = rw rest-length (omega (arith, room (c .before .before .before .before)))
 
 add-result : tie.Need-add-result
 add-result c =
-    let a = c .before .before .before .before .before .before .before .before .before .before .before .before .args in
-    omega (arith, c .before .before .before .before .before .before .before .before .before .before .before .before .pre, size (a .left .now) (a .right .now), c .before .before .before .before .before .before .before .put-spelled .ensures .size, c .before .before .put-after .ensures .size)
+    omega (arith, room (left (c .before .before)), c .before .before .put-after .ensures .size)
 
 same-length : tie.Need-same-length
 same-length c = search needs
@@ -53,7 +58,7 @@ same-length c = search needs
 returns : tie.Need-returns
 unfolding ascii
 returns c =
-    written-both (c .before .before .before .before .before .before .before .put-spelled .ensures) (c .before .before .put-after .ensures)
+    written-both (left (c .before .before) .put-spelled .ensures) (c .before .before .put-after .ensures)
 
 pub put-elided-spec : {M : Type 1} → statement M
 put-elided-spec =

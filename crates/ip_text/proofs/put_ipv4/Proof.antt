@@ -2,7 +2,7 @@
 use borrow.Author.Needs.{needs}
 use Rattle.ip_text.proofs.put_ipv4.Statement.{statement}
 use Rattle.ip_text.proofs.put_ipv4.Tie as tie
-use Rattle.digits.proofs.put_spelled.Reads as put-spelled-reads
+use Rattle.separated.proofs.put_spelled.Reads as put-spelled-reads
 
 octets-of-requires : tie.Need-octets-of-requires
 octets-of-requires c κs = search needs

@@ -1,9 +1,12 @@
 -- A dotted tail where the groups show the prefix, else the shortened groups.
-use mathlib.Core.Path.{ap}
+use Prim.Native.Nat.{ℕ}
+use mathlib.Core.List.{List, _++_}
+use mathlib.Core.Path.{_≡_, ap}
 use mathlib.Core.Logic.{⊎-elim}
 use native.Mathlib.Omega.{arith}
 use lib.ListN.{length}
 use Rattle.octets.specs.Ascii.{ascii}
+use Rattle.ip_text.specs.Text.{dotted, shortened, ipv6Text}
 use Rattle.ip_text.proofs.Forms.{mapped-form, other-zeros, other-group}
 use borrow.Author.Needs.{needs}
 use Rattle.ip_text.proofs.put_ipv6.Statement.{statement}
@@ -39,14 +42,26 @@ slice-aggregate-put-after c = search needs
 slice-aggregate-put-after-2 : tie.Need-slice-aggregate-put-after-2
 slice-aggregate-put-after-2 c = search needs
 
+-- past the runs: the address, its groups and their runs
+abbrev start : tie.After-zero-runs → tie.Start
+start c = c .before .before .before .before .before
+
+abbrev address : tie.After-zero-runs → List ℕ
+address c = start c .args .address .now
+
+-- where both tests hold, the text has a dotted tail
+mapped : (c : tie.After-octets-of) → let b = c .before .before in
+    ascii "::ffff:" ++ dotted (c .octets-of .result) ≡ ipv6Text (address (b .before .before .before))
+mapped c =
+    let b = c .before .before in
+    let runs = b .before .before .before in
+    mapped-form (address runs) (runs .before .before .groups-of .ensures) (runs .zero-runs .ensures) (b .before .if1 .taken) (b .if2 .taken) (c .octets-of .ensures)
+
 put-after-requires : tie.Need-put-after-requires
 unfolding ascii
 put-after-requires c κs =
-    let b = c .before .before .before .before .before in
-    let is = b .before .before .before .before .before .groups-of .ensures in
-    let runs = b .before .before .before .zero-runs .ensures in
-    let a = b .before .before .before .before .before .before .before .before .args .address .now in
-    omega (arith, b .before .before .before .before .before .before .before .before .pre .1, ap length (mapped-form a is runs (b .before .if1 .taken) (b .if2 .taken) (c .before .before .before .octets-of .ensures)))
+    let tail = c .before .before .before in
+    omega (arith, start (tail .before .before .before .before .before) .pre .1, ap length (mapped tail))
 
 same-length : tie.Need-same-length
 same-length c = search needs
@@ -54,32 +69,32 @@ same-length c = search needs
 returns : tie.Need-returns
 unfolding ascii
 returns c =
-    let b = c .before .before .before .before .before .before .before .before in
-    let is = b .before .before .before .before .before .groups-of .ensures in
-    let runs = b .before .before .before .zero-runs .ensures in
-    let a = b .before .before .before .before .before .before .before .before .args .address .now in
-    rw (← mapped-form a is runs (b .before .if1 .taken) (b .if2 .taken) (c .before .before .before .before .before .before .octets-of .ensures)) (c .before .before .put-after .ensures)
+    let written = c .before .before in
+    rw (← mapped (written .before .before .before .before)) (written .put-after .ensures)
 
 slice-aggregate-put-shortened : tie.Need-slice-aggregate-put-shortened
 slice-aggregate-put-shortened c = search needs
 
+-- where one of them does not, the groups are shortened
+plain : (c : tie.Joined1) → let runs = c .before .before in shortened (runs .before .before .groups-of .result) ≡ ipv6Text (address runs)
+plain c =
+    let runs = c .before .before in
+    let is = runs .before .before .groups-of .ensures in
+    ⊎-elim (λ w. other-group (address runs) is (runs .zero-runs .ensures) (w .1 .left)) (λ w. other-zeros (address runs) is (runs .zero-runs .ensures) (w .left)) (c .if1 .came)
+
 put-shortened-requires : tie.Need-put-shortened-requires
 put-shortened-requires c κs =
-    let a = c .before .before .before .before .before .before .before .before .before .args .address .now in
-    let is = c .before .before .before .before .before .before .groups-of .ensures in
-    let runs = c .before .before .before .before .zero-runs .ensures in
-    let p = c .before .before .before .before .before .before .before .before .before .pre in
-    (runs .most, runs .found-at, omega (arith, p .1, ap length (⊎-elim (λ w. other-group a is runs (w .1 .left)) (λ w. other-zeros a is runs (w .left)) (c .before .before .if1 .came))))
+    let here = c .before .before in
+    let runs = here .before .before in
+    (runs .zero-runs .ensures .run, omega (arith, start runs .pre .1, ap length (plain here)))
 
 same-length-2 : tie.Need-same-length-2
 same-length-2 c = search needs
 
 returns-2 : tie.Need-returns-2
 returns-2 c =
-    let a = c .before .before .before .before .before .before .before .before .before .before .before .before .args .address .now in
-    let is = c .before .before .before .before .before .before .before .before .before .groups-of .ensures in
-    let runs = c .before .before .before .before .before .before .before .zero-runs .ensures in
-    rw (← ⊎-elim (λ w. other-group a is runs (w .1 .left)) (λ w. other-zeros a is runs (w .left)) (c .before .before .before .before .before .if1 .came)) (c .before .before .put-shortened .ensures)
+    let written = c .before .before in
+    rw (← plain (written .before .before .before)) (written .put-shortened .ensures)
 
 pub put-ipv6-spec : {M : Type 1} → statement M
 put-ipv6-spec =

@@ -14,7 +14,8 @@ same-length c = search needs
 
 returns : tie.Need-returns
 returns c =
-    rw (ipv4-text (c .before .before .before .before .before .before .before .args .address .now) (c .before .before .before .before .if1 .taken)) (c .before .before .put-ipv4 .ensures)
+    let short = c .before .before .before .before in
+    rw (ipv4-text (short .before .before .before .args .address .now) (short .if1 .taken)) (c .before .before .put-ipv4 .ensures)
 
 put-ipv6-requires : tie.Need-put-ipv6-requires
 put-ipv6-requires c κs =
@@ -26,7 +27,8 @@ same-length-2 c = search needs
 
 returns-2 : tie.Need-returns-2
 returns-2 c =
-    rw (ipv6-text (c .before .before .before .before .before .before .before .args .address .now) (c .before .before .before .before .if1 .left)) (c .before .before .put-ipv6 .ensures)
+    let long = c .before .before .before .before in
+    rw (ipv6-text (long .before .before .before .args .address .now) (long .if1 .left)) (c .before .before .put-ipv6 .ensures)
 
 pub put-text-spec : {M : Type 1} → statement M
 put-text-spec =

@@ -10,7 +10,7 @@ use Rattle.octets.specs.declared.Words.{Words}
 use Rattle.output.proofs.Writing.{all-put, nothing-put}
 use Rattle.next_prefix.specs.Walked.{walked}
 use Rattle.prefix_bytes.specs.Entry.{entriesOf}
-use Rattle.prefixes.specs.Entries.{Ordered}
+use Rattle.prefix_walk.specs.Entries.{Ordered}
 use Rattle.prefixes.proofs.Room.{told-short, told-enough}
 use Rattle.prefixes.proofs.Answers.{ordered, refused, told}
 use borrow.Author.Needs.{needs}

@@ -11,12 +11,12 @@ use Rattle.octets.specs.Words.{numberOf}
 use Rattle.output.proofs.Writing.{rest-length, kept-length}
 use Rattle.cidr.specs.Prefixes.{Prefix, prefix, from-to, prefixesOf}
 use Rattle.cidr.proofs.Greedy.{first-prefix}
-use Rattle.prefixes.specs.Entries.{fallen, Falling, Entered}
-use Rattle.prefixes.proofs.Falling as falling
-use Rattle.prefixes.proofs.Writing.{nothing-entered, entry-inside, few-entered, entered, all-entered}
+use Rattle.prefix_walk.specs.Entries.{fallen, Falling, Entered}
+use Rattle.prefix_walk.proofs.Falling as falling
+use Rattle.prefix_walk.proofs.Writing.{nothing-entered, entry-inside, few-entered, entered, all-entered}
 use borrow.Author.Needs.{needs}
-use Rattle.prefixes.proofs.fall.Statement.{statement}
-use Rattle.prefixes.proofs.fall.Tie as tie
+use Rattle.prefix_walk.proofs.fall.Statement.{statement}
+use Rattle.prefix_walk.proofs.fall.Tie as tie
 
 abbrev Inv-loop : tie.InvT-loop
 Inv-loop width out₀ start₀ left₀ at₀ n₀ out start left at n = Falling width start left × Entered width (fallen start₀ left₀) (fallen start left) out₀ out at n

@@ -15,12 +15,12 @@ use Rattle.cidr.proofs.Greedy.{first-prefix}
 use Rattle.cidr.proofs.Step as step
 use Rattle.cidr.proofs.Theorem.{at-most-254}
 use Rattle.next_prefix.specs.Walked.{wordsRange, walked}
-use Rattle.prefixes.specs.Entries.{Entered}
+use Rattle.prefix_walk.specs.Entries.{Entered}
 use Rattle.next_prefix.proofs.Walk as walk
-use Rattle.prefixes.proofs.Writing.{nothing-entered, entry-inside, few-entered, entered, entry-fits}
+use Rattle.prefix_walk.proofs.Writing.{nothing-entered, entry-inside, few-entered, entered, entry-fits}
 use borrow.Author.Needs.{needs}
-use Rattle.prefixes.proofs.climb.Statement.{statement}
-use Rattle.prefixes.proofs.climb.Tie as tie
+use Rattle.prefix_walk.proofs.climb.Statement.{statement}
+use Rattle.prefix_walk.proofs.climb.Tie as tie
 
 abbrev Inv-loop : tie.InvT-loop
 Inv-loop last width out₀ start₀ at₀ n₀ out start at n =

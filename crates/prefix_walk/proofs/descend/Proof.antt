@@ -14,15 +14,15 @@ use Rattle.cidr.proofs.Multiples.{sum, itself, of-remainder, to-remainder}
 use Rattle.cidr.proofs.Greedy.{first-prefix}
 use Rattle.cidr.proofs.Step as step
 use Rattle.next_prefix.specs.Walked.{wordsRange, walked}
-use Rattle.prefixes.specs.Entries.{fallen, Falling, Entered}
+use Rattle.prefix_walk.specs.Entries.{fallen, Falling, Entered}
 use Rattle.next_prefix.proofs.Walk as walk
-use Rattle.prefixes.proofs.Falling.{same-last, positive-after, below-after, few-after}
+use Rattle.prefix_walk.proofs.Falling.{same-last, positive-after, below-after, few-after}
 use Rattle.prefix_bytes.proofs.Widths.{at-most-sixteen}
-use Rattle.prefixes.proofs.Writing.{nothing-entered, entry-inside, one-entered, all-entered, both-listed, entry-fits}
-use Rattle.prefixes.proofs.Room.{few}
+use Rattle.prefix_walk.proofs.Writing.{nothing-entered, entry-inside, one-entered, all-entered, both-listed, entry-fits}
+use Rattle.prefix_walk.proofs.Few.{few}
 use borrow.Author.Needs.{needs}
-use Rattle.prefixes.proofs.descend.Statement.{statement}
-use Rattle.prefixes.proofs.descend.Tie as tie
+use Rattle.prefix_walk.proofs.descend.Statement.{statement}
+use Rattle.prefix_walk.proofs.descend.Tie as tie
 
 below : (c : tie.Start) → numberOf (c .args .last) < 2 ^ 128
 below c = walk.wide {h = c .args .last .high} {l = c .args .last .low} (search needs) (search needs)

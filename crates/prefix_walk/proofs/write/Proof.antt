@@ -6,11 +6,11 @@ use Rattle.output.proofs.Writing.{rest-length, rest-fits}
 use Rattle.prefix_bytes.specs.Entry.{entriesOf}
 use Rattle.next_prefix.specs.Walked.{walked}
 use Rattle.prefix_bytes.proofs.Widths.{at-most-sixteen}
-use Rattle.prefixes.proofs.Writing.{both-listed}
-use Rattle.prefixes.proofs.Room.{few}
+use Rattle.prefix_walk.proofs.Writing.{both-listed}
+use Rattle.prefix_walk.proofs.Few.{few}
 use borrow.Author.Needs.{needs}
-use Rattle.prefixes.proofs.write.Statement.{statement}
-use Rattle.prefixes.proofs.write.Tie as tie
+use Rattle.prefix_walk.proofs.write.Statement.{statement}
+use Rattle.prefix_walk.proofs.write.Tie as tie
 
 -- where the climbing ended
 module _ (c : tie.After-climb) where

@@ -5,13 +5,13 @@ use mathlib.Core.List.{[], _∷_}
 use native.Mathlib.Omega.{arith}
 use lib.ListN.{length, drop, getD}
 use Rattle.numeral.specs.Digits.{following}
-use Rattle.digits.specs.Base.{radix}
+use Rattle.separated.specs.Base.{radix}
 use Rattle.output.specs.Writing.{Reached}
 use Rattle.output.proofs.Writing.{rest-length, at-start, kept-length, part-fits, next-part, at-end}
-use Rattle.digits.proofs.Following.{next-number, no-number}
+use Rattle.separated.proofs.Following.{next-number, no-number}
 use borrow.Author.Needs.{needs}
-use Rattle.digits.proofs.put_following.Statement.{statement}
-use Rattle.digits.proofs.put_following.Tie as tie
+use Rattle.separated.proofs.put_following.Statement.{statement}
+use Rattle.separated.proofs.put_following.Tie as tie
 
 abbrev Inv-loop : tie.InvT-loop
 Inv-loop sep base numbers text₀ at₀ i₀ i-end text at i =

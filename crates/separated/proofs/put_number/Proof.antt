@@ -1,7 +1,7 @@
 -- By the base.
 use borrow.Author.Needs.{needs}
-use Rattle.digits.proofs.put_number.Statement.{statement}
-use Rattle.digits.proofs.put_number.Tie as tie
+use Rattle.separated.proofs.put_number.Statement.{statement}
+use Rattle.separated.proofs.put_number.Tie as tie
 
 enum-told : tie.Need-enum-told
 enum-told c = search needs

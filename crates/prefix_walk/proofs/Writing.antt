@@ -15,7 +15,7 @@ use Rattle.cidr.specs.First.{Largest}
 use Rattle.prefix_bytes.specs.Entry.{entryOf, entriesOf}
 use Rattle.prefix_bytes.specs.Words.{EntryFits}
 use Rattle.prefix_bytes.proofs.Widths.{length-entry}
-use Rattle.prefixes.specs.Entries.{Entered, Listed}
+use Rattle.prefix_walk.specs.Entries.{Entered, Listed}
 
 pub nothing-entered : (width : ℕ) (ps : List Prefix) (before : List ℕ) → Entered width ps ps before before 0 0
 nothing-entered width ps before = record { counted = omega arith; reached = at-start (entriesOf width ps) before }

@@ -1,12 +1,12 @@
 -- The first number, and the others in the rest of the buffer, each after a separator.
 use native.Mathlib.Omega.{arith}
 use Rattle.octets.proofs.Pieces.{rest-is}
-use Rattle.digits.specs.Base.{radix}
+use Rattle.separated.specs.Base.{radix}
 use Rattle.output.proofs.Writing.{written-nothing, written-both, rest-length}
-use Rattle.digits.proofs.Following.{spelled-none, spelled-first, length-first}
+use Rattle.separated.proofs.Following.{spelled-none, spelled-first, length-first}
 use borrow.Author.Needs.{needs}
-use Rattle.digits.proofs.put_spelled.Statement.{statement}
-use Rattle.digits.proofs.put_spelled.Tie as tie
+use Rattle.separated.proofs.put_spelled.Statement.{statement}
+use Rattle.separated.proofs.put_spelled.Tie as tie
 
 returns : tie.Need-returns
 returns c =

@@ -2,12 +2,12 @@
 use mathlib.Core.Path.{ap, _∙_}
 use native.Mathlib.Omega.{arith}
 use lib.ListN.{length, length-set}
-use Rattle.digits.specs.Base.{radix}
+use Rattle.separated.specs.Base.{radix}
 use Rattle.numeral.proofs.Spelled.{following-one}
 use Rattle.output.proofs.Writing.{written-nothing, written-one, written-both, rest-length}
 use borrow.Author.Needs.{needs}
-use Rattle.digits.proofs.put_next.Statement.{statement}
-use Rattle.digits.proofs.put_next.Tie as tie
+use Rattle.separated.proofs.put_next.Statement.{statement}
+use Rattle.separated.proofs.put_next.Tie as tie
 
 slice-write-text : tie.Need-slice-write-text
 slice-write-text c = omega (arith, ap length (following-one (c .before .args .sep) (radix (c .before .args .base)) (c .before .args .n)))

@@ -1,9 +1,7 @@
--- Serves contracts and proofs. The entries of prefixes, as the code counts and writes them.
+-- Serves contracts and proofs. The entries of prefixes, as the code writes them.
 use Prim.Native.Nat.{ℕ, _+_, _-_, _*_, _^_, _%_, _≤_, _<_}
-use mathlib.Core.Bool.{cond}
 use mathlib.Core.Path.{_≡_}
 use mathlib.Core.List.{List}
-use lib.Dec.{ltb}
 use lib.ListN.{length}
 use Rattle.octets.specs.Positions.{Wide}
 use Rattle.octets.specs.Words.{numberOf}
@@ -13,9 +11,7 @@ use Rattle.cidr.specs.First.{Capped}
 use Rattle.next_prefix.specs.Walked.{wordsRange, walked}
 use Rattle.cidr.specs.Prefixes.{Prefix, from-to, prefixesOf}
 use Rattle.prefix_bytes.specs.Entry.{entriesOf}
-use Rattle.prefixes.specs.declared.Stop.{Stop}
-use Rattle.prefixes.specs.declared.Fit.{Fit}
-use Rattle.prefixes.specs.declared.Fit.the-variants.{Enough, Short}
+use Rattle.prefix_walk.specs.declared.Stop.{Stop}
 
 -- two addresses of so many bytes, in order
 pub record Ordered (width : ℕ) (first last : Words) : Type 0 where
@@ -51,7 +47,3 @@ pub record Falling (width : ℕ) (first number : Words) : Type 0 where
   pub bits : ℕ
   pub zeros : numberOf first % 2 ^ bits ≡ 0
   pub few : numberOf number < 2 ^ bits
-
--- whether so much room is enough for the entries; if it is not, how many there are
-abbrev pub fitOf : ℕ → ℕ → List Prefix → Fit
-fitOf width room ps = cond (ltb room (length (entriesOf width ps))) (Short (length ps)) Enough
