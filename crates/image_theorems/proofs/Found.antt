@@ -1,4 +1,4 @@
--- Reason 8 exactly: the replies tell the answers (Forest.antt), and these are empty exactly if no block covers (Found.antt of the crate blocks).
+-- Reason 8 exactly: the replies tell the answers (Forest.antt), and these are empty exactly if no block covers (Found.antt of the crate forest).
 use Prim.Native.Nat.{ℕ}
 use mathlib.Core.List.{List}
 use mathlib.Core.Logic.{_↔_, Iff·trans}

@@ -21,7 +21,7 @@ returns c =
     (start .pre .sound) (c .reply .ensures [])
 
 answer-paths-requires : tie.Need-answer-paths-requires
-answer-paths-requires c κs = search needs
+answer-paths-requires c κs = (c .before .before .before .before .before .before .pre, omega (arith, c .before .if1 .left, c .before .before .count-paths .ensures))
 
 reply-requires-2 : tie.Need-reply-requires-2
 reply-requires-2 c κs = search needs
