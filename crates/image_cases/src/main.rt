@@ -235,31 +235,40 @@ fn siblings(out: &mut [u8; 262145]) {
     show(b"4,097 records", out, 131108);
 }
 
-// A chain; then, in place of its last block, blocks that stick out of the others or come after them.
+// A chain, and another block in place of its last one.
 fn chain(out: &mut [u8; 262145]) {
     put_blocks(out, 4096, true);
     show(b"chain of 4,096", out, 131076);
-    put_block(out, 131044, 0, 4095, 10001);
-    show(b"sticking out of the chain", out, 131076);
-    put_block(out, 131044, 0, 5906, 5907);
-    show(b"sticking out of the innermost", out, 131076);
-    put_block(out, 131044, 0, 5907, 5907);
-    show(b"after the innermost", out, 131076);
-    put_block(out, 131044, 0, 10001, 10001);
-    show(b"after the chain", out, 131076);
+    chained(out, b"sticking out of the chain", 4095, 10001);
+    chained(out, b"sticking out of the innermost", 5906, 5907);
+    chained(out, b"after the innermost", 5907, 5907);
+    chained(out, b"after the chain", 10001, 10001);
 }
 
-// One block of 36 bytes with the start: its length is at 6, that of its field 23 at 34.
+fn chained(out: &mut [u8; 262145], name: &[u8], first: u32, last: u32) {
+    put_block(out, 131044, 0, first, last);
+    show(name, out, 131076);
+}
+
+// One block of 36 bytes with the start.
 fn ends(out: &mut [u8; 262145]) {
     let at = put_start(out);
     put_block(out, at, 0, 0, 0);
     show(b"record to the end", out, 36);
     show(b"record one byte past the end", out, 35);
+}
+
+// The same block with another length of the record, which is at 6.
+fn record_lengths(out: &mut [u8; 262145]) {
     put(out, 6, 30);
     show(b"length of the record one more", out, 36);
     put(out, 6, 28);
     show(b"length of the record one less", out, 36);
     put(out, 6, 29);
+}
+
+// The same block with another length of its field 23, which is at 34.
+fn field_lengths(out: &mut [u8; 262145]) {
     put(out, 34, 2);
     show(b"length of the last field one more", out, 36);
     put(out, 34, 0);
@@ -273,4 +282,6 @@ fn main() {
     siblings(&mut out);
     chain(&mut out);
     ends(&mut out);
+    record_lengths(&mut out);
+    field_lengths(&mut out);
 }
