@@ -22,7 +22,7 @@ use Rattle.layouts.specs.declared.Format.{Format}
 use Rattle.layouts.specs.Layout.{Layout, nameIn, layoutOf}
 use Rattle.filters.specs.Filter.{rowsOf, laidOut, networkText, filterText, room, textIn}
 use Rattle.layouts.specs.Styles.{styleOf, layoutAt}
-use Rattle.filters.specs.Rows.{entriesText}
+use Rattle.filters.specs.Rows.{entriesText, BeforeFits, Fits}
 use Rattle.layouts.proofs.Names.{name-length}
 use Rattle.layouts.proofs.Styles.{same-layout}
 use Rattle.filters.proofs.Rows.{rows-are}
@@ -128,30 +128,47 @@ module _ (s : List ℕ) (a : IpRange) (is : ipRangeOf s ≡ some a) where
         (omega (arith, length-append (l .head ++ rowsOf l (a .width) (prefixesIn a)) (l .foot), length-append (l .head) (rowsOf l (a .width) (prefixesIn a)), u .head, u .foot, rows, mul-le-mul-right (89 + length name) many))
 
 module _ {s after : List ℕ} {count : ℕ} (g : Network s after count) where
-  pub is-wide : Wide (length s / 2)
+  is-wide : Wide (length s / 2)
   is-wide = rw (width-is s (g .network) (g .is)) (sized s (g .network) (g .is) .wide)
 
-  pub entries-inside : count * (length s / 2 + 1) ≤ length after
+  entries-inside : count * (length s / 2 + 1) ≤ length after
   entries-inside = go (g .counted) (g .entries)
     where
       go : {n : ℕ} {t : List ℕ} → n ≡ length (prefixesIn (g .network)) → t ≡ entriesIn (g .network) ++ g .rest → n * (length s / 2 + 1) ≤ length t
       go p q = rw (p, q) (inside s (g .network) (g .is) (g .rest))
 
   module _ (f : Format) (handle : List ℕ) where
-    pub text-is : entriesText (styleOf f (length s / 2)) (nameIn f handle) (length s / 2) count after ≡ filterText f handle s
+    text-is : entriesText (styleOf f (length s / 2)) (nameIn f handle) (length s / 2) count after ≡ filterText f handle s
     text-is = go (g .counted) (g .entries)
       where
         go : {n : ℕ} {t : List ℕ} → n ≡ length (prefixesIn (g .network)) → t ≡ entriesIn (g .network) ++ g .rest
             → entriesText (styleOf f (length s / 2)) (nameIn f handle) (length s / 2) n t ≡ filterText f handle s
         go p q = rw (p, q) (by-entries s (g .network) (g .is) f handle (g .rest))
 
-    pub before-fits : length handle ≤ 64 → length (layoutAt (styleOf f (length s / 2)) (nameIn f handle) .before) ≤ 89
+    before-fits : length handle ≤ 64 → length (layoutAt (styleOf f (length s / 2)) (nameIn f handle) .before) ≤ 89
     before-fits h =
         let e : layoutOf f (length s / 2) (nameIn f handle) .before ≡ layoutAt (styleOf f (length s / 2)) (nameIn f handle) .before = ap (λ (l : Layout). l .before) (same-layout f (length s / 2) (nameIn f handle)) in
         rw (← e) (omega (arith, short f (length s / 2) (nameIn f handle) .before, name-length f handle))
 
-    pub text-fits : length handle ≤ 64 → length (filterText f handle s) ≤ room
+    text-fits : length handle ≤ 64 → length (filterText f handle s) ≤ room
     text-fits h = fits s (g .network) (g .is) f handle (g .bytes) h
+
+    -- by the name and the style that were found
+    module _ {style : ℕ} {name : List ℕ} (styled : (style ≡ styleOf f (length s / 2)) × (style < 6)) (named : name ≡ nameIn f handle) where
+      text-by : entriesText style name (length s / 2) count after ≡ filterText f handle s
+      text-by = rw (styled .0, named) text-is
+
+      pub entries-fit : {out : List ℕ} → length handle ≤ 64 → room ≤ length out
+          → BeforeFits style name × Fits style (length s / 2) count after (entriesText style name (length s / 2) count after) out
+      entries-fit h k = (
+        rw (styled .0, named) (before-fits h),
+        record { styled = styled .1; wide = is-wide; counted = entries-inside; room = rw text-by (omega (arith, text-fits h)) },
+      )
+
+      pub entries-put : {before out : List ℕ} {n : ℕ} → room ≤ length before → length handle ≤ 64 → Written (entriesText style name (length s / 2) count after) before out n
+          → Written (textIn f handle s (length before)) before out n
+      unfolding textIn
+      entries-put {before} k h w = rw (le-ltb (length before) room k, le-ltb 64 (length handle) h, ← text-by) w
 
 -- What is written: nothing without room or with too long a handle, nothing where there is no network, else the filter
 module _ (f : Format) (handle s out : List ℕ) where
@@ -165,7 +182,7 @@ module _ (f : Format) (handle s out : List ℕ) where
     long-handle k = rw (le-ltb (length out) room h, lt-ltb 64 (length handle) k) (written-nothing out)
 
     module _ (k : length handle ≤ 64) where
-      pub filter-put : {after : List ℕ} {n : ℕ} → Written (filterText f handle s) out after n → Written (textIn f handle s (length out)) out after n
+      filter-put : {after : List ℕ} {n : ℕ} → Written (filterText f handle s) out after n → Written (textIn f handle s (length out)) out after n
       unfolding textIn
       filter-put w = rw (le-ltb (length out) room h, le-ltb 64 (length handle) k) w
 

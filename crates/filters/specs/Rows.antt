@@ -1,7 +1,8 @@
 -- Serves contracts and proofs. The rows of a filter by entries of bytes, as the code reads them.
-use Prim.Native.Nat.{ℕ, zero, suc, _+_}
+use Prim.Native.Nat.{ℕ, zero, suc, _+_, _*_, _≤_, _<_}
 use mathlib.Core.List.{List, [], _++_}
-use lib.ListN.{take, drop, getD}
+use lib.ListN.{length, take, drop, getD}
+use Rattle.octets.specs.Positions.{Wide}
 use Rattle.numeral.specs.Digits.{decimalText}
 use Rattle.ip_text.specs.Text.{textOf}
 use Rattle.layouts.specs.Layout.{endOf}
@@ -23,3 +24,14 @@ entryRows style before width (suc n) s = rowText style before (take width s) (ge
 abbrev pub entriesText : (style : ℕ) (name : List ℕ) (width count : ℕ) (entries : List ℕ) → List ℕ
 entriesText style name width count s =
     layoutAt style name .head ++ entryRows style (layoutAt style name .before) width count s ++ layoutAt style [] .foot
+
+-- what stands before each prefix fits in the buffer for it
+abbrev pub BeforeFits : (style : ℕ) (name : List ℕ) → Type 0
+BeforeFits style name = length (layoutAt style name .before) ≤ 89
+
+-- a style, so many entries of addresses of so many bytes, and room for a text of them
+pub record Fits (style width count : ℕ) (entries text out : List ℕ) : Type 0 where
+  pub styled : style < 6
+  pub wide : Wide width
+  pub counted : count * (width + 1) ≤ length entries
+  pub room : length text ≤ length out

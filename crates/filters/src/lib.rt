@@ -1,12 +1,12 @@
 // The filter of a network for a router (S12.7): its text is written to the start of a lent buffer.
 ghost use mathlib.Core.List.{[]};
-ghost use Prim.Native.Nat.{_+_, _*_, _≤_, _<_};
+ghost use Prim.Native.Nat.{_≤_, _<_};
 ghost use lib.ListN.{length};
 ghost use Rattle.octets.specs.Positions.{Wide};
 ghost use Rattle.output.specs.Writing.{Written};
 ghost use Rattle.layouts.specs.Styles.{layoutAt};
 ghost use Rattle.filters.specs.Filter.{textIn};
-ghost use Rattle.filters.specs.Rows.{slashed, rowText, entryRows, entriesText};
+ghost use Rattle.filters.specs.Rows.{slashed, rowText, entryRows, entriesText, BeforeFits, Fits};
 use layouts::FOOT;
 use layouts::Format;
 use layouts::SLASH;
@@ -57,7 +57,7 @@ fn put_rows(
     entries: &[u8],
     out: &mut [u8],
 ) -> usize
-    requires { ⌜ (style < 6) × Wide width × (count * (width + 1) ≤ length (now entries)) × (length (entryRows style (now before) width count (now entries)) ≤ length (now out)) ⌝ }
+    requires { ⌜ Fits style width count (now entries) (entryRows style (now before) width count (now entries)) (now out) ⌝ }
     ensures { λ r. ⌜ Written (entryRows style (now (before .entry)) width count (now (entries .entry))) (now (out .entry)) (now (out .exit)) r ⌝ }
 {
     let mut at: usize = 0;
@@ -88,7 +88,7 @@ fn put_entries(
     entries: &[u8],
     out: &mut [u8],
 ) -> usize
-    requires { ⌜ (style < 6) × (length (layoutAt style (now name) .before) ≤ 89) × Wide width × (count * (width + 1) ≤ length (now entries)) × (length (entriesText style (now name) width count (now entries)) ≤ length (now out)) ⌝ }
+    requires { ⌜ BeforeFits style (now name) × Fits style width count (now entries) (entriesText style (now name) width count (now entries)) (now out) ⌝ }
     ensures { λ r. ⌜ Written (entriesText style (now (name .entry)) width count (now (entries .entry))) (now (out .entry)) (now (out .exit)) r ⌝ }
 {
     let mut before = [0u8; 89];

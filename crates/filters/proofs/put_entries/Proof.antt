@@ -1,9 +1,13 @@
 -- What stands before each prefix is written once; head, rows and foot one after another.
 use mathlib.Core.Path.{sym}
+use Prim.Native.Nat.{ℕ, _+_, _≤_}
+use mathlib.Core.List.{List, []}
 use native.Mathlib.Omega.{arith}
-use lib.ListN.{length-append}
+use lib.ListN.{length, length-append}
 use lib.Seq.{length-take-le}
 use Rattle.output.proofs.Writing.{written-front, rest-length, written-both}
+use Rattle.layouts.specs.Styles.{layoutAt}
+use Rattle.filters.specs.Rows.{entryRows}
 use borrow.Author.Needs.{needs}
 use Rattle.filters.proofs.put_entries.Statement.{statement}
 use Rattle.filters.proofs.put_entries.Tie as tie
@@ -14,42 +18,66 @@ slice-aggregate-put-before c = search needs
 put-before-requires : tie.Need-put-before-requires
 put-before-requires c κs = search needs
 
+-- what was asked, and where its parts were written
+abbrev start : tie.After-put-before → tie.Start
+start c = c .before .before .before .before .before
+
+abbrev ahead : tie.After-put-head → tie.After-put-before
+ahead c = c .before .before .before
+
+abbrev head : tie.After-put-rows → tie.After-put-head
+head c = c .before .before .before .before .before
+
+abbrev rows : tie.After-put-fixed → tie.After-put-rows
+rows c = c .before .before .before .before
+
+abbrev lines : tie.Start → List ℕ
+lines c = let a = c .args in entryRows (a .style) (layoutAt (a .style) (a .name .now) .before) (a .width) (a .count) (a .entries .now)
+
+fits : (c : tie.Start) → let a = c .args in
+    length (layoutAt (a .style) (a .name .now) .head) + (length (lines c) + length (layoutAt (a .style) [] .foot)) ≤ length (a .out .now)
+fits c =
+    let h = simp length-append at (c .pre .1 .room) in
+    omega arith
+
 put-head-requires : tie.Need-put-head-requires
 put-head-requires c κs =
-    let h = simp length-append at (c .before .before .before .before .before .before .before .pre .4) in
-    (c .before .before .before .before .before .before .before .pre .0, omega arith)
+    let s = start (c .before .before) in
+    (s .pre .1 .styled, omega (arith, fits s))
 
 array-share-prefix-before : tie.Need-array-share-prefix-before
 array-share-prefix-before c = search needs
 
 slice-aggregate-put-rows : tie.Need-slice-aggregate-put-rows
-slice-aggregate-put-rows c = sym (length-take-le _ _ (omega (arith, c .before .before .before .before .before .before .before .before .before .before .before .pre .1, c .before .before .before .before .before .before .put-before .ensures .size)))
+slice-aggregate-put-rows c =
+    let b = ahead (c .before .before .before) in
+    sym (length-take-le _ _ (omega (arith, start b .pre .0, b .put-before .ensures .size)))
 
 sub-put-rows : tie.Need-sub-put-rows
-sub-put-rows c =
-    let h = simp length-append at (c .before .before .before .before .before .before .before .before .before .before .before .pre .4) in
-    omega arith
+sub-put-rows c = omega (arith, fits (start (ahead (c .before .before .before))))
 
 part-put-rows-start : tie.Need-part-put-rows-start
-part-put-rows-start c =
-    let h = simp length-append at (c .before .before .before .before .before .before .before .before .before .before .before .pre .4) in
-    omega arith
+part-put-rows-start c = omega (arith, fits (start (ahead (c .before .before .before))))
 
 part-put-rows-end : tie.Need-part-put-rows-end
 part-put-rows-end c = search needs
 
 put-rows-requires : tie.Need-put-rows-requires
 put-rows-requires c κs =
-    let h = simp length-append at (c .before .before .before .before .before .before .before .before .before .before .before .before .pre .4) in
-    let e = written-front (c .before .before .before .before .before .before .before .put-before .ensures) in
-    (c .before .before .before .before .before .before .before .before .before .before .before .before .pre .0, c .before .before .before .before .before .before .before .before .before .before .before .before .pre .2, c .before .before .before .before .before .before .before .before .before .before .before .before .pre .3, rw (e, rest-length) (omega arith))
+    let b = ahead (c .before .before .before .before) in
+    let s = start b in
+    let e = written-front (b .put-before .ensures) in
+    record { styled = s .pre .1 .styled; wide = s .pre .1 .wide; counted = s .pre .1 .counted; room = rw (e, rest-length) (omega (arith, fits s)) }
+
+-- after the rows
+room : (c : tie.After-put-rows) → let s = start (ahead (head c)) in
+    head c .put-head .result + c .put-rows .result + length (layoutAt (s .args .style) [] .foot) ≤ length (s .args .out .now)
+room c =
+    let r = rw (written-front (ahead (head c) .put-before .ensures)) at (c .put-rows .ensures) in
+    omega (arith, fits (start (ahead (head c))), head c .put-head .ensures .size, r .size)
 
 add-at : tie.Need-add-at
-add-at c =
-    let h = simp length-append at (c .before .before .before .before .before .before .before .before .before .before .before .before .before .before .before .pre .4) in
-    let e = written-front (c .before .before .before .before .before .before .before .before .before .before .put-before .ensures) in
-    let r = rw e at (c .before .before .put-rows .ensures) in
-    omega (arith, r .size)
+add-at c = omega (arith, room (c .before .before))
 
 mul-put-fixed : tie.Need-mul-put-fixed
 mul-put-fixed c = search needs
@@ -58,43 +86,28 @@ add-put-fixed : tie.Need-add-put-fixed
 add-put-fixed c = search needs
 
 sub-put-fixed : tie.Need-sub-put-fixed
-sub-put-fixed c =
-    let h = simp length-append at (c .before .before .before .before .before .before .before .before .before .before .before .before .before .before .before .pre .4) in
-    let e = written-front (c .before .before .before .before .before .before .before .before .before .before .put-before .ensures) in
-    let r = rw e at (c .before .before .put-rows .ensures) in
-    omega (arith, r .size)
+sub-put-fixed c = omega (arith, room (c .before .before))
 
 part-put-fixed-start : tie.Need-part-put-fixed-start
-part-put-fixed-start c =
-    let h = simp length-append at (c .before .before .before .before .before .before .before .before .before .before .before .before .before .before .before .pre .4) in
-    let e = written-front (c .before .before .before .before .before .before .before .before .before .before .put-before .ensures) in
-    let r = rw e at (c .before .before .put-rows .ensures) in
-    omega (arith, r .size)
+part-put-fixed-start c = omega (arith, room (c .before .before))
 
 part-put-fixed-end : tie.Need-part-put-fixed-end
 part-put-fixed-end c = search needs
 
 put-fixed-requires : tie.Need-put-fixed-requires
-put-fixed-requires c κs =
-    let h = simp length-append at (c .before .before .before .before .before .before .before .before .before .before .before .before .before .before .before .before .pre .4) in
-    let e = written-front (c .before .before .before .before .before .before .before .before .before .before .before .put-before .ensures) in
-    let r = rw e at (c .before .before .before .put-rows .ensures) in
-    (omega arith, rw rest-length (omega (arith, r .size)))
+put-fixed-requires c κs = (omega arith, rw rest-length (omega (arith, room (c .before .before .before))))
 
 add-result : tie.Need-add-result
-add-result c =
-    let h = simp length-append at (c .before .before .before .before .before .before .before .before .before .before .before .before .before .before .before .before .before .before .before .pre .4) in
-    let e = written-front (c .before .before .before .before .before .before .before .before .before .before .before .before .before .before .put-before .ensures) in
-    let r = rw e at (c .before .before .before .before .before .before .put-rows .ensures) in
-    omega (arith, r .size)
+add-result c = omega (arith, room (rows (c .before .before)))
 
 same-length : tie.Need-same-length
 same-length c = search needs
 
 returns : tie.Need-returns
 returns c =
-    let e = written-front (c .before .before .before .before .before .before .before .before .before .before .before .before .before .before .put-before .ensures) in
-    written-both (written-both (c .before .before .before .before .before .before .before .before .before .before .before .put-head .ensures) (rw e at (c .before .before .before .before .before .before .put-rows .ensures))) (c .before .before .put-fixed .ensures)
+    let r = rows (c .before .before) in
+    let e = written-front (ahead (head r) .put-before .ensures) in
+    written-both (written-both (head r .put-head .ensures) (rw e at (r .put-rows .ensures))) (c .before .before .put-fixed .ensures)
 
 pub put-entries-spec : {M : Type 1} → statement M
 put-entries-spec =

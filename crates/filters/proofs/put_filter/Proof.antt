@@ -8,7 +8,7 @@ use lib.Seq.{length-take-le}
 use Rattle.octets.specs.Number.{Bytes}
 use Rattle.output.proofs.Writing.{written-front}
 use Rattle.layouts.proofs.Names.{name-length}
-use Rattle.filters.proofs.Networks.{Network, a-network, no-network, is-wide, entries-inside, before-fits, text-is, text-fits, no-room, long-handle, filter-put, nothing-put}
+use Rattle.filters.proofs.Networks.{Network, a-network, no-network, no-room, long-handle, nothing-put, entries-fit, entries-put}
 use borrow.Author.Needs.{needs}
 use Rattle.filters.proofs.put_filter.Statement.{statement}
 use Rattle.filters.proofs.put_filter.Tie as tie
@@ -25,6 +25,16 @@ buffer = replicate 4318 0
 
 listed : (c : tie.After-prefixes) → c .prefixes .result .reason ≡ 0 → Network (start c .args .range .now) (c .prefixes .last .1 .0) (c .prefixes .result .count)
 listed c e = a-network (start c .args .range .now) buffer (bytes c) (length-replicate {A = ℕ} 4318 0) (c .prefixes .ensures .0) (c .prefixes .ensures .1) e
+
+-- the network, past its name and past its style
+abbrev network : tie.After-put-name → tie.After-prefixes
+network c = c .before .before .before .before .before
+
+abbrev named : tie.After-style-of → tie.After-put-name
+named c = c .before .before .before
+
+known : (c : tie.After-put-name) → let n = network c in Network (start n .args .range .now) (n .prefixes .last .1 .0) (n .prefixes .result .count)
+known c = listed (network c) (c .before .before .if3 .left)
 
 returns : tie.Need-returns
 returns c = no-room _ _ _ _ (omega arith)
@@ -55,38 +65,33 @@ style-of-requires c κs = search needs
 
 array-share-prefix-name : tie.Need-array-share-prefix-name
 array-share-prefix-name c =
-    let a = c .before .before .before .before .before .before .before .before .before .before .before .before .before .before .before .args in
+    let a = start (network (c .before .before .before)) .args in
     let n = name-length (a .format) (a .handle .now) in
     omega (arith, c .before .before .before .put-name .ensures .size)
 
 slice-aggregate-put-entries : tie.Need-slice-aggregate-put-entries
 slice-aggregate-put-entries c =
-    let a = c .before .before .before .before .before .before .before .before .before .before .before .before .before .before .before .before .args in
+    let a = start (network (c .before .before .before .before)) .args in
     let n = name-length (a .format) (a .handle .now) in
     sym (length-take-le _ _ (omega (arith, c .before .before .before .before .put-name .ensures .size)))
 
 slice-aggregate-put-entries-2 : tie.Need-slice-aggregate-put-entries-2
 slice-aggregate-put-entries-2 c = search needs
 
+-- the filter's text by its entries has room
 put-entries-requires : tie.Need-put-entries-requires
 put-entries-requires c κs =
-    let a = c .before .before .before .before .before .before .before .before .before .before .before .before .before .before .before .before .before .before .args in
-    let e = written-front (c .before .before .before .before .before .before .put-name .ensures) in
-    let s = c .before .before .before .style-of .ensures .0 in
-    let g = listed (c .before .before .before .before .before .before .before .before .before .before .before) (c .before .before .before .before .before .before .before .before .if3 .left) in
-    let f = text-fits g (a .format) (a .handle .now) (omega arith) in
-    (c .before .before .before .style-of .ensures .1, rw (e, s) (before-fits g (a .format) (a .handle .now) (omega arith)), is-wide g, entries-inside g, rw (e, s, text-is g (a .format) (a .handle .now)) (omega arith))
+    entries-fit (known (named (c .before .before .before))) _ _ (c .before .before .before .style-of .ensures) (written-front (named (c .before .before .before) .put-name .ensures)) (omega arith) (omega arith)
 
 same-length : tie.Need-same-length
 same-length c = search needs
 
+abbrev styled : tie.After-put-entries → tie.After-style-of
+styled c = c .before .before .before .before
+
 returns-4 : tie.Need-returns-4
 returns-4 c =
-    let a = c .before .before .before .before .before .before .before .before .before .before .before .before .before .before .before .before .before .before .before .before .before .args in
-    let e = written-front (c .before .before .before .before .before .before .before .before .before .put-name .ensures) in
-    let s = c .before .before .before .before .before .before .style-of .ensures .0 in
-    let g = listed (c .before .before .before .before .before .before .before .before .before .before .before .before .before .before) (c .before .before .before .before .before .before .before .before .before .before .before .if3 .left) in
-    filter-put _ _ _ _ (omega arith) (omega arith) (rw (e, s, text-is g (a .format) (a .handle .now)) at (c .before .before .put-entries .ensures))
+    entries-put (known (named (styled (c .before .before)))) _ _ (styled (c .before .before) .style-of .ensures) (written-front (named (styled (c .before .before)) .put-name .ensures)) (omega arith) (omega arith) (c .before .before .put-entries .ensures)
 
 pub put-filter-spec : {M : Type 1} → statement M
 put-filter-spec =

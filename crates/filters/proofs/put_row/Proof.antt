@@ -1,72 +1,77 @@
 -- One after another.
+use Prim.Native.Nat.{_+_, _≤_}
+use mathlib.Core.List.{[]}
 use native.Mathlib.Omega.{arith}
-use lib.ListN.{length-append}
+use lib.ListN.{length, length-append}
+use Rattle.layouts.specs.Layout.{endOf}
+use Rattle.layouts.specs.Styles.{layoutAt}
+use Rattle.filters.specs.Rows.{slashed}
 use Rattle.output.proofs.Writing.{rest-length, written-both}
 use borrow.Author.Needs.{needs}
 use Rattle.filters.proofs.put_row.Statement.{statement}
 use Rattle.filters.proofs.put_row.Tie as tie
 
+-- what was asked, and where its parts were written
+abbrev start : tie.After-put-bytes → tie.Start
+start c = c .before .before .before .before .before
+
+abbrev bytes : tie.After-put-prefix → tie.After-put-bytes
+bytes c = c .before .before .before .before
+
+abbrev network : tie.After-put-end → tie.After-put-prefix
+network c = c .before .before .before .before
+
+fits : (c : tie.Start) → let a = c .args in
+    length (a .before .now) + (length (slashed (layoutAt (a .style) [] .slash) (a .address .now) (a .bits)) + length (endOf (layoutAt (a .style) []) (a .left))) ≤ length (a .out .now)
+fits c =
+    let h = simp length-append at (c .pre .2) in
+    simp length-append (omega arith)
+
 put-bytes-requires : tie.Need-put-bytes-requires
-put-bytes-requires c κs =
-    let h = simp length-append at (c .before .before .before .before .pre .2) in
-    omega arith
+put-bytes-requires c κs = omega (arith, fits (c .before .before .before .before))
 
 sub-put-prefix : tie.Need-sub-put-prefix
-sub-put-prefix c =
-    let h = simp length-append at (c .before .before .before .before .before .before .before .pre .2) in
-    omega arith
+sub-put-prefix c = omega (arith, fits (start (c .before .before)))
 
 part-put-prefix-start : tie.Need-part-put-prefix-start
-part-put-prefix-start c =
-    let h = simp length-append at (c .before .before .before .before .before .before .before .pre .2) in
-    omega arith
+part-put-prefix-start c = omega (arith, fits (start (c .before .before)))
 
 part-put-prefix-end : tie.Need-part-put-prefix-end
 part-put-prefix-end c = search needs
 
 put-prefix-requires : tie.Need-put-prefix-requires
 put-prefix-requires c κs =
-    let h = simp length-append at (c .before .before .before .before .before .before .before .before .pre .2) in
-    (c .before .before .before .before .before .before .before .before .pre .0, c .before .before .before .before .before .before .before .before .pre .1, rw rest-length (simp length-append (omega arith)))
+    let s = start (c .before .before .before) in
+    (s .pre .0, s .pre .1, rw rest-length (omega (arith, fits s)))
+
+-- after the prefix
+room : (c : tie.After-put-prefix) → let a = start (bytes c) .args in
+    bytes c .put-bytes .result + c .put-prefix .result + length (endOf (layoutAt (a .style) []) (a .left)) ≤ length (a .out .now)
+room c = omega (arith, fits (start (bytes c)), bytes c .put-bytes .ensures .size, c .put-prefix .ensures .size)
 
 add-at : tie.Need-add-at
-add-at c =
-    let h = simp length-append at (c .before .before .before .before .before .before .before .before .before .before .before .pre .2) in
-    let k = simp length-append at (c .before .before .put-prefix .ensures .size) in
-    omega arith
+add-at c = omega (arith, room (c .before .before))
 
 sub-put-end : tie.Need-sub-put-end
-sub-put-end c =
-    let h = simp length-append at (c .before .before .before .before .before .before .before .before .before .before .before .pre .2) in
-    let k = simp length-append at (c .before .before .put-prefix .ensures .size) in
-    omega arith
+sub-put-end c = omega (arith, room (c .before .before))
 
 part-put-end-start : tie.Need-part-put-end-start
-part-put-end-start c =
-    let h = simp length-append at (c .before .before .before .before .before .before .before .before .before .before .before .pre .2) in
-    let k = simp length-append at (c .before .before .put-prefix .ensures .size) in
-    omega arith
+part-put-end-start c = omega (arith, room (c .before .before))
 
 part-put-end-end : tie.Need-part-put-end-end
 part-put-end-end c = search needs
 
 put-end-requires : tie.Need-put-end-requires
-put-end-requires c κs =
-    let h = simp length-append at (c .before .before .before .before .before .before .before .before .before .before .before .before .pre .2) in
-    let k = simp length-append at (c .before .before .before .put-prefix .ensures .size) in
-    (c .before .before .before .before .before .before .before .before .before .before .before .before .pre .0, rw rest-length (omega arith))
+put-end-requires c κs = (start (bytes (c .before .before .before)) .pre .0, rw rest-length (omega (arith, room (c .before .before .before))))
 
 add-result : tie.Need-add-result
-add-result c =
-    let h = simp length-append at (c .before .before .before .before .before .before .before .before .before .before .before .before .before .before .before .pre .2) in
-    let k = simp length-append at (c .before .before .before .before .before .before .put-prefix .ensures .size) in
-    omega arith
+add-result c = omega (arith, room (network (c .before .before)))
 
 same-length : tie.Need-same-length
 same-length c = search needs
 
 returns : tie.Need-returns
-returns c = written-both (written-both (c .before .before .before .before .before .before .before .before .before .before .put-bytes .ensures) (c .before .before .before .before .before .before .put-prefix .ensures)) (c .before .before .put-end .ensures)
+returns c = written-both (written-both (bytes (network (c .before .before)) .put-bytes .ensures) (network (c .before .before) .put-prefix .ensures)) (c .before .before .put-end .ensures)
 
 pub put-row-spec : {M : Type 1} → statement M
 put-row-spec =

@@ -26,6 +26,10 @@ Place = tie.In-loop Inv-loop μ-loop
 abbrev start : Place → tie.Start Inv-loop μ-loop
 start c = c .before .before .before .before .before
 
+-- past the row that was written
+abbrev place : tie.After-put-row Inv-loop μ-loop → Place
+place c = c .before .before .before .before
+
 -- the next entry, and its row
 inside : (c : Place) → let l = c .before .loop in let a = start c .args in l .from + a .width + 1 + (l .left - 1) * (a .width + 1) ≤ length (a .entries .now)
 inside c =
@@ -43,10 +47,10 @@ fits : (c : Place) → c .before .loop .at + length (row c) ≤ length (c .befor
 fits c =
     let l = c .before .loop in
     let a = start c .args in
-    part-fits (l .inv .1) (start c .pre .3) (row-next (a .style) (a .before .now) (a .width) (a .entries .now) (l .from) (l .left) (omega arith))
+    part-fits (l .inv .1) (start c .pre .room) (row-next (a .style) (a .before .now) (a .width) (a .entries .now) (l .from) (l .left) (omega arith))
 
 loop-holds : tie.Need-loop-holds Inv-loop μ-loop
-loop-holds c = (omega (arith, c .before .before .before .pre .2), at-start _ _)
+loop-holds c = (omega (arith, c .before .before .before .pre .counted), at-start _ _)
 
 sub-left : tie.Need-sub-left Inv-loop μ-loop
 sub-left c = search needs
@@ -92,16 +96,16 @@ put-row-requires c κs =
     let i = inside (c .before .before .before) in
     let a = start (c .before .before .before) .args in
     let l = c .before .before .before .before .loop in
-    (start (c .before .before .before) .pre .0, rw (entry-length (a .entries .now) (l .from) (a .width) (omega arith)) (start (c .before .before .before) .pre .1), rw rest-length (omega (arith, fits (c .before .before .before))))
+    (start (c .before .before .before) .pre .styled, rw (entry-length (a .entries .now) (l .from) (a .width) (omega arith)) (start (c .before .before .before) .pre .wide), rw rest-length (omega (arith, fits (c .before .before .before))))
 
 add-at : tie.Need-add-at Inv-loop μ-loop
 add-at c =
-    let l = c .before .before .before .before .before .before in
-    omega (arith, fits l, kept-length (l .before .loop .inv .1) (start l .pre .3), c .before .before .put-row .ensures .size, start l .good)
+    let l = place (c .before .before) in
+    omega (arith, fits l, kept-length (l .before .loop .inv .1) (start l .pre .room), c .before .before .put-row .ensures .size, start l .good)
 
 add-from : tie.Need-add-from Inv-loop μ-loop
 add-from c =
-    let i = inside (c .before .before .before .before .before .before) in
+    let i = inside (place (c .before .before)) in
     omega arith
 
 loop-less : tie.Need-loop-less Inv-loop μ-loop
@@ -109,13 +113,14 @@ loop-less c = omega arith
 
 loop-again : tie.Need-loop-again Inv-loop μ-loop
 loop-again c =
-    let a = start (c .before .before .before .before .before .before) .args in
-    let l = c .before .before .before .before .before .before .before .loop in
+    let here = place (c .before .before) in
+    let a = start here .args in
+    let l = here .before .loop in
     let t = row-next (a .style) (a .before .now) (a .width) (a .entries .now) (l .from) (l .left) (omega arith) in
-    (inside (c .before .before .before .before .before .before), next-part (l .inv .1) t (c .before .before .put-row .ensures))
+    (inside here, next-part (l .inv .1) t (c .before .before .put-row .ensures))
 
 same-length : tie.Need-same-length Inv-loop μ-loop
-same-length c = kept-length (c .before .loop .inv .1) (c .before .before .before .before .before .pre .3)
+same-length c = kept-length (c .before .loop .inv .1) (c .before .before .before .before .before .pre .room)
 
 returns : tie.Need-returns Inv-loop μ-loop
 returns c =
