@@ -13,11 +13,11 @@ use Rattle.prefix_bytes.proofs.Bytes.{length-bytes, bytes-small}
 use Rattle.prefix_bytes.proofs.Widths.{at-most-sixteen}
 use Rattle.ip_text.specs.Text.{textOf}
 use Rattle.ip_text.proofs.Lengths.{text-most}
-use Rattle.layouts.specs.Layout.{Layout, endOf}
-use Rattle.layouts.proofs.Lengths.{Short, end-most}
+use Rattle.formats.specs.Template.{Template, endOf}
+use Rattle.formats.proofs.Lengths.{Short, end-most}
 use Rattle.filters.specs.Filter.{prefixText, rowsOf}
 
-module _ (l : Layout) (name : List ℕ) (h : Short l name) where
+module _ (l : Template) (name : List ℕ) (h : Short l name) where
   module _ (width : ℕ) (w : Wide width) where
     -- an address, the slash and a length of at most three digits
     prefix-most : (p : Prefix) → length (prefixText (l .slash) width p) ≤ 44

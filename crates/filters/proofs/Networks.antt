@@ -18,15 +18,15 @@ use Rattle.prefixes.specs.Call.{IpRange, ipRange, ipRangeOf, prefixesIn, entrie
 use Rattle.output.specs.declared.Counted.{Counted}
 use Rattle.prefixes.proofs.Answers.{answers-shortest}
 use Rattle.prefix_bytes.proofs.Widths.{by-width, length-entries}
-use Rattle.layouts.specs.declared.Format.{Format}
-use Rattle.layouts.specs.Layout.{Layout, nameIn, layoutOf}
+use Rattle.formats.specs.declared.Format.{Format}
+use Rattle.formats.specs.Template.{Template, nameIn, templateOf}
 use Rattle.filters.specs.Filter.{rowsOf, laidOut, networkText, filterText, room, textIn}
-use Rattle.layouts.specs.Styles.{styleOf, layoutAt}
+use Rattle.formats.specs.Styles.{styleOf, templateAt}
 use Rattle.filters.specs.Rows.{entriesText, BeforeFits, Fits}
-use Rattle.layouts.proofs.Names.{name-length}
-use Rattle.layouts.proofs.Styles.{same-layout}
+use Rattle.formats.proofs.Names.{name-length}
+use Rattle.formats.proofs.Styles.{same-template}
 use Rattle.filters.proofs.Rows.{rows-are}
-use Rattle.layouts.proofs.Lengths.{short}
+use Rattle.formats.proofs.Lengths.{short}
 use Rattle.filters.proofs.Lengths.{rows-most}
 
 -- a range of addresses of 4 or 16 bytes
@@ -113,13 +113,13 @@ module _ (s : List ℕ) (a : IpRange) (is : ipRangeOf s ≡ some a) where
     by-entries : (rest : List ℕ) → entriesText (styleOf f (length s / 2)) (nameIn f handle) (length s / 2) (length (prefixesIn a)) (entriesIn a ++ rest) ≡ filterText f handle s
     unfolding filterText networkText laidOut entriesIn
     by-entries rest =
-        rw (width-is, is, rows-are (styleOf f (a .width)) (a .width) (nameIn f handle) (prefixesIn a) rest, same-layout f (a .width) (nameIn f handle))
+        rw (width-is, is, rows-are (styleOf f (a .width)) (a .width) (nameIn f handle) (prefixesIn a) rest, same-template f (a .width) (nameIn f handle))
 
     fits : Bytes s → length handle ≤ 64 → length (filterText f handle s) ≤ room
     unfolding filterText networkText laidOut
     fits bytes h =
         let name : List ℕ = nameIn f handle in
-        let l = layoutOf f (a .width) name in
+        let l = templateOf f (a .width) name in
         let u = short f (a .width) name in
         let rows = rows-most l name u (a .width) (sized s a is .wide) (prefixesIn a) in
         let n : length name ≤ 64 = omega (arith, name-length f handle) in
@@ -145,9 +145,9 @@ module _ {s after : List ℕ} {count : ℕ} (g : Network s after count) where
             → entriesText (styleOf f (length s / 2)) (nameIn f handle) (length s / 2) n t ≡ filterText f handle s
         go p q = rw (p, q) (by-entries s (g .network) (g .is) f handle (g .rest))
 
-    before-fits : length handle ≤ 64 → length (layoutAt (styleOf f (length s / 2)) (nameIn f handle) .before) ≤ 89
+    before-fits : length handle ≤ 64 → length (templateAt (styleOf f (length s / 2)) (nameIn f handle) .before) ≤ 89
     before-fits h =
-        let e : layoutOf f (length s / 2) (nameIn f handle) .before ≡ layoutAt (styleOf f (length s / 2)) (nameIn f handle) .before = ap (λ (l : Layout). l .before) (same-layout f (length s / 2) (nameIn f handle)) in
+        let e : templateOf f (length s / 2) (nameIn f handle) .before ≡ templateAt (styleOf f (length s / 2)) (nameIn f handle) .before = ap (λ (l : Template). l .before) (same-template f (length s / 2) (nameIn f handle)) in
         rw (← e) (omega (arith, short f (length s / 2) (nameIn f handle) .before, name-length f handle))
 
     text-fits : length handle ≤ 64 → length (filterText f handle s) ≤ room

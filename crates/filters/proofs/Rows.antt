@@ -8,9 +8,9 @@ use lib.Seq.{take-at, drop-at, drop-drop, getD-at, getD-drop}
 use Rattle.cidr.specs.Prefixes.{Prefix}
 use Rattle.prefix_bytes.specs.Entry.{bigEndian, entryOf, entriesOf}
 use Rattle.prefix_bytes.proofs.Bytes.{length-bytes}
-use Rattle.layouts.specs.Layout.{Layout, endOf}
+use Rattle.formats.specs.Template.{Template, endOf}
 use Rattle.filters.specs.Filter.{prefixText, rowsOf}
-use Rattle.layouts.specs.Styles.{layoutAt}
+use Rattle.formats.specs.Styles.{templateAt}
 use Rattle.filters.specs.Rows.{rowText, entryRows}
 use Rattle.output.proofs.Writing.{Parted}
 
@@ -53,8 +53,8 @@ entry-length entries from width h = omega (arith, length-take (from + width - fr
 
 -- the entries of prefixes, whatever follows them
 module _ (style width : ℕ) (name : List ℕ) where
-  abbrev l : Layout
-  l = layoutAt style name
+  abbrev l : Template
+  l = templateAt style name
 
   module _ (p : Prefix) (rest : List ℕ) where
     abbrev address : List ℕ

@@ -5,8 +5,8 @@ use mathlib.Core.Path.{_≡_, refl}
 use mathlib.Core.List.{List, [], _∷_, _++_, map}
 use lib.ListN.{length, replicate}
 use Rattle.octets.specs.Ascii.{ascii}
-use Rattle.layouts.specs.declared.Format.{Format}
-use Rattle.layouts.specs.declared.Format.the-variants.{Plain, Cisco, Bird, Juniper, Json}
+use Rattle.formats.specs.declared.Format.{Format}
+use Rattle.formats.specs.declared.Format.the-variants.{Plain, Cisco, Bird, Juniper, Json}
 use Rattle.filters.specs.Filter.{filterText, room, textIn}
 use Rattle.filters.specs.Computing.{computing}
 

@@ -1,4 +1,4 @@
--- Router filters: the prefixes of a network in a layout (S12.7).
+-- Router filters: the prefixes of a network in a template (S12.7).
 use Prim.Native.Nat.{ℕ, _+_, _-_, _*_}
 use mathlib.Core.Bool.{cond, _||_}
 use mathlib.Core.Option.{Option, none, some}
@@ -10,23 +10,23 @@ use Rattle.cidr.specs.Prefixes.{Prefix}
 use Rattle.prefix_bytes.specs.Entry.{bigEndian}
 use Rattle.prefixes.specs.Call.{IpRange, ipRangeOf, prefixesIn}
 use Rattle.ip_text.specs.Text.{textOf}
-use Rattle.layouts.specs.declared.Format.{Format}
-use Rattle.layouts.specs.Layout.{Layout, nameIn, layoutOf, endOf}
+use Rattle.formats.specs.declared.Format.{Format}
+use Rattle.formats.specs.Template.{Template, nameIn, templateOf, endOf}
 
 -- a prefix of addresses of so many bytes
 unfoldable pub prefixText : (slash : List ℕ) (width : ℕ) → Prefix → List ℕ
 prefixText slash width p = textOf (bigEndian width (p .first)) ++ slash ++ decimalText (8 * width - p .free)
 
-unfoldable pub rowsOf : Layout → (width : ℕ) → List Prefix → List ℕ
+unfoldable pub rowsOf : Template → (width : ℕ) → List Prefix → List ℕ
 rowsOf l width [] = []
 rowsOf l width (p ∷ ps) = l .before ++ prefixText (l .slash) width p ++ endOf l (length ps) ++ rowsOf l width ps
 
-unfoldable pub laidOut : Layout → IpRange → List ℕ
+unfoldable pub laidOut : Template → IpRange → List ℕ
 laidOut l a = l .head ++ rowsOf l (a .width) (prefixesIn a) ++ l .foot
 
 unfoldable pub networkText : Format → (handle : List ℕ) → Option IpRange → List ℕ
 networkText f handle none = []
-networkText f handle (some a) = laidOut (layoutOf f (a .width) (nameIn f handle)) a
+networkText f handle (some a) = laidOut (templateOf f (a .width) (nameIn f handle)) a
 
 -- S12.7: the filter of a network with this handle and this range of bytes
 unfoldable pub filterText : Format → (handle range : List ℕ) → List ℕ

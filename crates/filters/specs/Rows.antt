@@ -5,15 +5,15 @@ use lib.ListN.{length, take, drop, getD}
 use Rattle.octets.specs.Positions.{Wide}
 use Rattle.numeral.specs.Digits.{decimalText}
 use Rattle.ip_text.specs.Text.{textOf}
-use Rattle.layouts.specs.Layout.{endOf}
-use Rattle.layouts.specs.Styles.{layoutAt}
+use Rattle.formats.specs.Template.{endOf}
+use Rattle.formats.specs.Styles.{templateAt}
 
 -- an address and its length
 abbrev pub slashed : (slash address : List ℕ) (bits : ℕ) → List ℕ
 slashed slash address bits = textOf address ++ slash ++ decimalText bits
 
 abbrev pub rowText : (style : ℕ) (before address : List ℕ) (bits left : ℕ) → List ℕ
-rowText style before address bits left = before ++ slashed (layoutAt style [] .slash) address bits ++ endOf (layoutAt style []) left
+rowText style before address bits left = before ++ slashed (templateAt style [] .slash) address bits ++ endOf (templateAt style []) left
 
 -- the rows of so many entries: an address of so many bytes and its length
 unfoldable pub entryRows : (style : ℕ) (before : List ℕ) (width count : ℕ) (entries : List ℕ) → List ℕ
@@ -23,11 +23,11 @@ entryRows style before width (suc n) s = rowText style before (take width s) (ge
 -- head, rows and foot
 abbrev pub entriesText : (style : ℕ) (name : List ℕ) (width count : ℕ) (entries : List ℕ) → List ℕ
 entriesText style name width count s =
-    layoutAt style name .head ++ entryRows style (layoutAt style name .before) width count s ++ layoutAt style [] .foot
+    templateAt style name .head ++ entryRows style (templateAt style name .before) width count s ++ templateAt style [] .foot
 
 -- what stands before each prefix fits in the buffer for it
 abbrev pub BeforeFits : (style : ℕ) (name : List ℕ) → Type 0
-BeforeFits style name = length (layoutAt style name .before) ≤ 89
+BeforeFits style name = length (templateAt style name .before) ≤ 89
 
 -- a style, so many entries of addresses of so many bytes, and room for a text of them
 pub record Fits (style width count : ℕ) (entries text out : List ℕ) : Type 0 where

@@ -4,18 +4,18 @@ ghost use Prim.Native.Nat.{_≤_, _<_};
 ghost use lib.ListN.{length};
 ghost use Rattle.octets.specs.Positions.{Wide};
 ghost use Rattle.output.specs.Writing.{Written};
-ghost use Rattle.layouts.specs.Styles.{layoutAt};
+ghost use Rattle.formats.specs.Styles.{templateAt};
 ghost use Rattle.filters.specs.Filter.{textIn};
 ghost use Rattle.filters.specs.Rows.{slashed, rowText, entryRows, entriesText, BeforeFits, Fits};
-use layouts::FOOT;
-use layouts::Format;
-use layouts::SLASH;
-use layouts::put_before;
-use layouts::put_end;
-use layouts::put_fixed;
-use layouts::put_head;
-use layouts::put_name;
-use layouts::style_of;
+use formats::FOOT;
+use formats::Format;
+use formats::SLASH;
+use formats::put_before;
+use formats::put_end;
+use formats::put_fixed;
+use formats::put_head;
+use formats::put_name;
+use formats::style_of;
 use output::put_bytes;
 
 // Bytes that every filter fits into.
@@ -23,8 +23,8 @@ pub const ROOM: usize = 38973;
 
 // A prefix: its address and its length.
 fn put_prefix(style: usize, address: &[u8], bits: u8, out: &mut [u8]) -> usize
-    requires { ⌜ (style < 6) × Wide (length (now address)) × (length (slashed (layoutAt style [] .slash) (now address) bits) ≤ length (now out)) ⌝ }
-    ensures { λ r. ⌜ Written (slashed (layoutAt style [] .slash) (now (address .entry)) bits) (now (out .entry)) (now (out .exit)) r ⌝ }
+    requires { ⌜ (style < 6) × Wide (length (now address)) × (length (slashed (templateAt style [] .slash) (now address) bits) ≤ length (now out)) ⌝ }
+    ensures { λ r. ⌜ Written (slashed (templateAt style [] .slash) (now (address .entry)) bits) (now (out .entry)) (now (out .exit)) r ⌝ }
 {
     let mut at = ip_text::put_text(address, out);
     at += put_fixed(8 * style + SLASH, &mut out[at..]);

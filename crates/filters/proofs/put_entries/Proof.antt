@@ -6,7 +6,7 @@ use native.Mathlib.Omega.{arith}
 use lib.ListN.{length, length-append}
 use lib.Seq.{length-take-le}
 use Rattle.output.proofs.Writing.{written-front, rest-length, written-both}
-use Rattle.layouts.specs.Styles.{layoutAt}
+use Rattle.formats.specs.Styles.{templateAt}
 use Rattle.filters.specs.Rows.{entryRows}
 use borrow.Author.Needs.{needs}
 use Rattle.filters.proofs.put_entries.Statement.{statement}
@@ -32,10 +32,10 @@ abbrev rows : tie.After-put-fixed → tie.After-put-rows
 rows c = c .before .before .before .before
 
 abbrev lines : tie.Start → List ℕ
-lines c = let a = c .args in entryRows (a .style) (layoutAt (a .style) (a .name .now) .before) (a .width) (a .count) (a .entries .now)
+lines c = let a = c .args in entryRows (a .style) (templateAt (a .style) (a .name .now) .before) (a .width) (a .count) (a .entries .now)
 
 fits : (c : tie.Start) → let a = c .args in
-    length (layoutAt (a .style) (a .name .now) .head) + (length (lines c) + length (layoutAt (a .style) [] .foot)) ≤ length (a .out .now)
+    length (templateAt (a .style) (a .name .now) .head) + (length (lines c) + length (templateAt (a .style) [] .foot)) ≤ length (a .out .now)
 fits c =
     let h = simp length-append at (c .pre .1 .room) in
     omega arith
@@ -71,7 +71,7 @@ put-rows-requires c κs =
 
 -- after the rows
 room : (c : tie.After-put-rows) → let s = start (ahead (head c)) in
-    head c .put-head .result + c .put-rows .result + length (layoutAt (s .args .style) [] .foot) ≤ length (s .args .out .now)
+    head c .put-head .result + c .put-rows .result + length (templateAt (s .args .style) [] .foot) ≤ length (s .args .out .now)
 room c =
     let r = rw (written-front (ahead (head c) .put-before .ensures)) at (c .put-rows .ensures) in
     omega (arith, fits (start (ahead (head c))), head c .put-head .ensures .size, r .size)

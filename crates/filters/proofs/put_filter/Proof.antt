@@ -7,7 +7,7 @@ use native.Mathlib.Omega.{arith}
 use lib.Seq.{length-take-le}
 use Rattle.octets.specs.Number.{Bytes}
 use Rattle.output.proofs.Writing.{written-front}
-use Rattle.layouts.proofs.Names.{name-length}
+use Rattle.formats.proofs.Names.{name-length}
 use Rattle.filters.proofs.Networks.{Network, a-network, no-network, no-room, long-handle, nothing-put, entries-fit, entries-put}
 use borrow.Author.Needs.{needs}
 use Rattle.filters.proofs.put_filter.Statement.{statement}

@@ -5,7 +5,7 @@ use native.Mathlib.Omega.{arith}
 use lib.ListN.{length, length-append}
 use Rattle.numeral.specs.Digits.{decimalText}
 use Rattle.ip_text.specs.Text.{textOf}
-use Rattle.layouts.specs.Styles.{layoutAt}
+use Rattle.formats.specs.Styles.{templateAt}
 use Rattle.output.proofs.Writing.{rest-length, written-both}
 use borrow.Author.Needs.{needs}
 use Rattle.filters.proofs.put_prefix.Statement.{statement}
@@ -17,14 +17,14 @@ abbrev text : tie.After-put-fixed → tie.After-put-text
 text c = c .before .before .before .before
 
 fits : (c : tie.Start) → let a = c .args in
-    length (textOf (a .address .now)) + (length (layoutAt (a .style) [] .slash) + length (decimalText (a .bits))) ≤ length (a .out .now)
+    length (textOf (a .address .now)) + (length (templateAt (a .style) [] .slash) + length (decimalText (a .bits))) ≤ length (a .out .now)
 fits c =
     let h = simp length-append at (c .pre .2) in
     omega arith
 
 -- after the address
 room : (c : tie.After-put-text) → let a = c .before .before .before .before .args in
-    c .put-text .result + (length (layoutAt (a .style) [] .slash) + length (decimalText (a .bits))) ≤ length (a .out .now)
+    c .put-text .result + (length (templateAt (a .style) [] .slash) + length (decimalText (a .bits))) ≤ length (a .out .now)
 room c = omega (arith, fits (c .before .before .before .before), c .put-text .ensures .size)
 
 put-text-requires : tie.Need-put-text-requires

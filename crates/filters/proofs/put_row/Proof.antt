@@ -3,8 +3,8 @@ use Prim.Native.Nat.{_+_, _≤_}
 use mathlib.Core.List.{[]}
 use native.Mathlib.Omega.{arith}
 use lib.ListN.{length, length-append}
-use Rattle.layouts.specs.Layout.{endOf}
-use Rattle.layouts.specs.Styles.{layoutAt}
+use Rattle.formats.specs.Template.{endOf}
+use Rattle.formats.specs.Styles.{templateAt}
 use Rattle.filters.specs.Rows.{slashed}
 use Rattle.output.proofs.Writing.{rest-length, written-both}
 use borrow.Author.Needs.{needs}
@@ -22,7 +22,7 @@ abbrev network : tie.After-put-end → tie.After-put-prefix
 network c = c .before .before .before .before
 
 fits : (c : tie.Start) → let a = c .args in
-    length (a .before .now) + (length (slashed (layoutAt (a .style) [] .slash) (a .address .now) (a .bits)) + length (endOf (layoutAt (a .style) []) (a .left))) ≤ length (a .out .now)
+    length (a .before .now) + (length (slashed (templateAt (a .style) [] .slash) (a .address .now) (a .bits)) + length (endOf (templateAt (a .style) []) (a .left))) ≤ length (a .out .now)
 fits c =
     let h = simp length-append at (c .pre .2) in
     simp length-append (omega arith)
@@ -46,7 +46,7 @@ put-prefix-requires c κs =
 
 -- after the prefix
 room : (c : tie.After-put-prefix) → let a = start (bytes c) .args in
-    bytes c .put-bytes .result + c .put-prefix .result + length (endOf (layoutAt (a .style) []) (a .left)) ≤ length (a .out .now)
+    bytes c .put-bytes .result + c .put-prefix .result + length (endOf (templateAt (a .style) []) (a .left)) ≤ length (a .out .now)
 room c = omega (arith, fits (start (bytes c)), bytes c .put-bytes .ensures .size, c .put-prefix .ensures .size)
 
 add-at : tie.Need-add-at

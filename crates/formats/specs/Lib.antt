@@ -1,0 +1,4 @@
+pub mod Template
+pub mod Styles
+pub mod Computing
+pub mod Examples

@@ -1,4 +1,0 @@
-pub mod Layout
-pub mod Styles
-pub mod Computing
-pub mod Examples
