@@ -1,8 +1,11 @@
 // What the programs do alike: a file is read whole, output is written, and what is wrong is told on standard error.
-ghost use Prim.Native.Nat.{_≤_, _<_};
+ghost use mathlib.Core.Path.{_≡_};
+ghost use Prim.Native.Nat.{_+_, _≤_, _<_};
 ghost use lib.ListN.{length};
+ghost use Rattle.registry.specs.Limits.{mostImage};
 use libc::STDERR_FILENO;
 use libc::STDOUT_FILENO;
+use registry::MOST_IMAGE;
 
 // What is wrong: parts of a line on standard error.
 
@@ -84,6 +87,20 @@ pub fn tell_image(name: &[u8], defect: u32, place: u32) {
 }
 
 // Files that are read.
+
+// Room for an image file, with one byte more, so that a longer file is seen.
+pub fn image_room() -> [u8; MOST_IMAGE + 1]
+    ensures { λ r. ⌜ mostImage + 1 ≡ length r ⌝ }
+{
+    [0; MOST_IMAGE + 1]
+}
+
+// The same for a file of at most 65,536 bytes.
+pub fn small_room() -> [u8; 65537]
+    ensures { λ r. ⌜ 65537 ≡ length r ⌝ }
+{
+    [0; 65537]
+}
 
 // Reads what an open file holds into a room with one byte more than it may hold.
 fn read_open(fd: i32, name: &[u8], room: &mut [u8]) -> usize

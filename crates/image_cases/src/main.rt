@@ -3,9 +3,8 @@
 // The file `defects` holds images one after another: the length in two bytes, high byte first, then the image.
 // For each image one line with defect and place, 0 0 for a sound one; then a line for each of its records and for the number after the last:
 // where its handle starts, its handle, where its name starts, its name.
-ghost use mathlib.Core.Path.{_≡_};
 ghost use Prim.Native.Nat.{_≤_, _<_};
-ghost use lib.ListN.{length};
+use files::image_room;
 use image::Verdict;
 use libc::STDOUT_FILENO;
 use registry::Part;
@@ -98,12 +97,6 @@ fn all(file: &[u8]) {
     }
 }
 
-fn room() -> [u8; 262145]
-    ensures { λ r. ⌜ 262145 ≡ length r ⌝ }
-{
-    [0; 262145]
-}
-
 fn vectors() {
     let path = b"defects";
     let fd = os::open_read(path);
@@ -111,7 +104,7 @@ fn vectors() {
         os::fail(path);
         return;
     }
-    let mut file = room();
+    let mut file = image_room();
     let n = io::read_full(fd, &mut file);
     libc::close(fd);
     all(&file[..n]);
@@ -277,7 +270,7 @@ fn field_lengths(out: &mut [u8; 262145]) {
 
 fn main() {
     vectors();
-    let mut out = room();
+    let mut out = image_room();
     longest(&mut out);
     siblings(&mut out);
     chain(&mut out);

@@ -14,8 +14,10 @@ use changes::MOST_CHANGES;
 use entries::contents_span;
 use fields::Field;
 use fields::step_at;
+use files::image_room;
 use files::part;
 use files::read_whole;
+use files::small_room;
 use files::tell;
 use files::tell_defect;
 use files::tell_defective;
@@ -301,7 +303,7 @@ fn fold_into<'a>(
 )
     requires { ⌜ (length (now changes) ≤ mostChanges) × (length (now output) ≤ mostRecords) ⌝ }
 {
-    let mut room = [0u8; MOST_IMAGE];
+    let mut room = image_room();
     let r = rdap::fold(image, changes, &mut room);
     if r.reason == 0 {
         let n = r.count as usize;
@@ -316,7 +318,7 @@ fn fold_into<'a>(
 fn fold_with(image: &[u8], image_name: &[u8], changes_name: &[u8], output: &[u8])
     requires { ⌜ length (now output) ≤ mostRecords ⌝ }
 {
-    let mut changes = [0u8; MOST_CHANGES + 1];
+    let mut changes = small_room();
     let n = read_whole(changes_name, &mut changes);
     if n <= MOST_CHANGES {
         fold_into(
@@ -332,7 +334,7 @@ fn fold_with(image: &[u8], image_name: &[u8], changes_name: &[u8], output: &[u8]
 fn run(image_name: &[u8], changes_name: &[u8], output: &[u8])
     requires { ⌜ length (now output) ≤ mostRecords ⌝ }
 {
-    let mut image = [0u8; MOST_IMAGE + 1];
+    let mut image = image_room();
     let n = read_whole(image_name, &mut image);
     if n <= MOST_IMAGE {
         fold_with(part(&image, 0, n), image_name, changes_name, output);

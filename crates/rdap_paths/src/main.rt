@@ -11,6 +11,7 @@ ghost use Rattle.lines.specs.Lined.{longestLine, lineOf};
 ghost use Rattle.output.specs.Writing.{Written};
 use files::part;
 use files::read_whole;
+use files::small_room;
 use files::tell;
 use files::write_out;
 
@@ -165,7 +166,7 @@ fn answer_paths(name: &[u8], image: &[u8]) {
 }
 
 fn run(paths_name: &[u8], image_name: &[u8]) {
-    let mut image = [0u8; 65537];
+    let mut image = small_room();
     let n = read_whole(image_name, &mut image);
     if n <= 65536 {
         answer_paths(paths_name, part(&image, 0, n));

@@ -11,6 +11,7 @@ ghost use Prim.Native.Nat.{_≤_};
 ghost use lib.ListN.{length};
 ghost use Rattle.image.specs.Index.{Indexed};
 use entries::first_from;
+use files::image_room;
 use files::part;
 use files::read_whole;
 use files::tell;
@@ -143,7 +144,7 @@ fn list_image(image: &[u8], format: Format, all: bool, image_name: &[u8]) {
 }
 
 fn list_file(image_name: &[u8], format: Format, all: bool) {
-    let mut image = [0u8; 262145];
+    let mut image = image_room();
     let n = read_whole(image_name, &mut image);
     if n <= MOST_IMAGE {
         list_image(part(&image, 0, n), format, all, image_name);

@@ -3,6 +3,7 @@
 // The file `relations` holds cases of seven bytes, numbers high byte first: the record number in four, the relation in one (1 up, 2 down, 3 top, 4 bottom), the places of the list in two.
 // All are asked of the image in the file `campus.image`.
 ghost use Prim.Native.Nat.{_<_};
+use files::part;
 use libc::STDOUT_FILENO;
 use registry::Relation;
 
@@ -92,24 +93,10 @@ fn read_file(name: &[u8], room: &mut [u8; 4096]) -> usize {
     n
 }
 
-// Runs the first n bytes of cases.
-fn run_some(image: &[u8], cases: &[u8], n: usize, list: &mut [u32; 4096]) {
-    if n <= cases.len() {
-        run_cases(image, &cases[..n], list);
-    }
-}
-
-// The image is the first m bytes.
-fn run(image: &[u8], m: usize, cases: &[u8], n: usize, list: &mut [u32; 4096]) {
-    if m <= image.len() {
-        run_some(&image[..m], cases, n, list);
-    }
-}
-
 fn run_files(image: &mut [u8; 4096], cases: &mut [u8; 4096], list: &mut [u32; 4096]) {
     let m = read_file(b"campus.image", image);
     let n = read_file(b"relations", cases);
-    run(image, m, cases, n, list);
+    run_cases(part(image, 0, m), part(cases, 0, n), list);
 }
 
 fn main() {

@@ -11,6 +11,7 @@
 // A line that begins with # is only repeated.
 ghost use Prim.Native.Nat.{_≤_};
 ghost use lib.ListN.{length};
+use files::part;
 use ip::Family;
 use libc::STDIN_FILENO;
 use libc::STDOUT_FILENO;
@@ -51,9 +52,9 @@ fn say_target(t: TargetRead) {
     say(b"ok ");
     io::print_hex(STDOUT_FILENO, t.family as u64, 2);
     say(b" ");
-    say_hex(&first[at..]);
+    say_hex(part(&first, at, 16));
     say(b" ");
-    say_hex(&last[at..]);
+    say_hex(part(&last, at, 16));
 }
 
 // A/L, cut at the first slash.
@@ -65,7 +66,7 @@ fn say_prefix(s: &[u8])
         say(b"no length");
         return;
     }
-    say_target(segment::read_prefix_segments(&s[..j], &s[j + 1..]));
+    say_target(segment::read_prefix_segments(part(s, 0, j), part(s, j + 1, s.len())));
 }
 
 fn say_name(n: NameRead)
@@ -78,7 +79,7 @@ fn say_name(n: NameRead)
     let bytes = n.bytes;
     let len = n.len;
     say(b"ok ");
-    say(&bytes[..len]);
+    say(part(&bytes, 0, len));
 }
 
 fn say_form(form: Form) {
@@ -98,7 +99,7 @@ fn say_pattern(text: Text, s: &[u8])
     requires { ⌜ length (now s) ≤ 1024 ⌝ }
 {
     let j = pieces::first_piece(s, b' ');
-    let read = text_segment::read_pattern(text, &s[..j]);
+    let read = text_segment::read_pattern(text, part(s, 0, j));
     let form = read.form;
     say_form(form);
     if j == s.len() {
@@ -106,7 +107,12 @@ fn say_pattern(text: Text, s: &[u8])
     }
     let bytes = read.bytes;
     let len = read.len;
-    if pattern::form_matches(pattern::folds_case(text), form, &bytes[..len], &s[j + 1..]) {
+    if pattern::form_matches(
+        pattern::folds_case(text),
+        form,
+        part(&bytes, 0, len),
+        part(s, j + 1, s.len()),
+    ) {
         say(b" matches");
     } else {
         say(b" differs");
@@ -119,7 +125,7 @@ fn say_text(address: &[u8]) {
     let w = address_text::address_text(address, &mut text);
     let n = w.count as usize;
     if n <= 39 {
-        say(&text[..n]);
+        say(part(&text, 0, n));
     }
 }
 
@@ -129,7 +135,7 @@ fn say_written(s: &[u8]) {
     let bytes = read.address.bytes;
     let family = read.family;
     match family {
-        Family::V4 => say_text(&bytes[12..]),
+        Family::V4 => say_text(part(&bytes, 12, 16)),
         Family::V6 => say_text(&bytes),
         Family::Malformed => say(b"no"),
     }
@@ -161,7 +167,7 @@ fn say_decoded(s: &[u8])
 {
     let mut buffer = [0u8; 1024];
     let n = uri::decode(s, &mut buffer);
-    say_hex(&buffer[..n]);
+    say_hex(part(&buffer, 0, n));
 }
 
 fn say_found(letter: u8, s: &[u8])

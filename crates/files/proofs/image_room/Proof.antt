@@ -2,11 +2,11 @@
 use mathlib.Core.Path.{sym}
 use Prim.Native.Nat.{ℕ}
 use lib.ListN.{length-replicate}
-use Rattle.image_cases.proofs.room.Statement.{statement}
-use Rattle.image_cases.proofs.room.Tie as tie
+use Rattle.files.proofs.image_room.Statement.{statement}
+use Rattle.files.proofs.image_room.Tie as tie
 
 returns : tie.Need-returns
 returns c = sym (length-replicate {A = ℕ} 262145 0)
 
-pub room-spec : {M : Type 1} → statement M
-room-spec = tie.close (tie.spec returns)
+pub image-room-spec : {M : Type 1} → statement M
+image-room-spec = tie.close (tie.spec returns)
