@@ -1,10 +1,10 @@
 -- The search by halves for a key, and what stands at its rank.
 use mathlib.Core.Path.{_≡_, refl, sym, _∙_, ap}
 use mathlib.Core.Bool.{Bool, true, false, not, false≢true}
-use mathlib.Core.List.{List, [], _∷_}
-use Prim.Native.Nat.{ℕ, suc, _+_, _≤_, _<_}
+use mathlib.Core.List.{List, []}
+use Prim.Native.Nat.{ℕ, _+_, _≤_, _<_}
 use native.Mathlib.Omega.{arith}
-use lib.ListN.{length, getD, take, drop, drop-of-length-le}
+use lib.ListN.{getD, take, drop, drop-of-length-le}
 use Rattle.halves.proofs.Halves.{Halved, halve-up, halve-down, by-number, number-found}
 use Rattle.records.specs.Record.{Record, follows}
 use Rattle.rows.specs.Entry.{Entry}

@@ -3,7 +3,7 @@ use mathlib.Core.Path.{_≡_, sym, _∙_, ap}
 use mathlib.Core.List.{List, []}
 use Prim.Native.Nat.{ℕ, _≤_, _<_}
 use native.Mathlib.Omega.{arith}
-use lib.ListN.{length, getD, take, drop-of-length-le}
+use lib.ListN.{getD, take, drop-of-length-le}
 use Rattle.image.specs.Image.{sound, imageOf}
 use Rattle.image.specs.Part.{recordsOf}
 use Rattle.image.specs.Checking.{verdictOf}

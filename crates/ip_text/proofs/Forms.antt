@@ -9,7 +9,7 @@ use borrow.Author.Tests.{le-leb, lt-leb, eq-eqb, ne-eqb}
 use Rattle.octets.specs.Ascii.{ascii}
 use Rattle.octets.proofs.Pieces.{rest-is}
 use Rattle.octets.proofs.Connectives.{and-false}
-use Rattle.ip_groups.specs.Groups.{groupsOf, zerosFirst, longestRun, runAt}
+use Rattle.ip_groups.specs.Groups.{groupsOf, zerosFirst, longestRun}
 use Rattle.ip_text.specs.Text.{dotted, colons, shortened, isMapped, ipv6Text}
 use Rattle.ip_groups.specs.Runs.{LongestRun, RunsOf}
 use Rattle.ip_groups.proofs.Runs.{beside-run}

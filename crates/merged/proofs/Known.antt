@@ -1,19 +1,17 @@
 -- What is known of the bytes of a whole record.
-use mathlib.Core.Path.{_≡_, refl, sym, _∙_, ap, subst}
+use mathlib.Core.Path.{_≡_, refl, sym, _∙_, subst}
 use mathlib.Core.Bool.{Bool, true, false, cond}
 use mathlib.Core.List.{List, []}
-use Prim.Native.Nat.{ℕ, _+_, _-_, _*_, _≤_, _<_}
+use Prim.Native.Nat.{ℕ, _+_, _-_, _*_, _≤_}
 use native.Mathlib.Omega.{arith}
 use native.Mathlib.Nat.{le-refl}
-use borrow.Author.Tests.{leb-true, leb-false, eq-eqb, ne-eqb}
+use borrow.Author.Tests.{leb-true, leb-false}
 use lib.Dec.{leb, eqb}
 use lib.ListN.{length, getD, drop, length-drop}
-use lib.Seq.{slice, length-slice, take-all, take-length}
+use lib.Seq.{slice, take-all, take-length}
 use Rattle.registry.specs.Tags.{widthOf}
 use Rattle.records.specs.Record.{Record, whole, recordOf, goodContents, rangeOf, firstOf, lastOf}
 use Rattle.records.specs.Judge.{judgeAlone}
-use Rattle.records.specs.Positions.{bytesOf, handleSpan, nameSpan}
-use Rattle.records.specs.declared.Span.{Span}
 use Rattle.records.proofs.Accepted.{alone-good, overlap-good, first-last}
 use Rattle.records.proofs.Laid.{Laid, laid}
 use Rattle.records.proofs.Shapes.{no-block, a-block, named-fields}

@@ -9,6 +9,7 @@ use native.Mathlib.Nat.{le-of-lt}
 use lib.Dec.{leb, ltb, eqb}
 use Rattle.registry.specs.Tags.{isBlock}
 use Rattle.octets.specs.Number.{value}
+use Rattle.octets.proofs.Connectives.{and-right}
 use Rattle.address.specs.Ranges.{wellFormed, sortsAfter}
 use Rattle.texts.specs.Texts.{goodText}
 use Rattle.records.specs.Record.{Record, Parsed, whole, malformed, recordOf, firstOf, lastOf, goodName, goodContents, sortedAfter, follows}
@@ -56,10 +57,6 @@ overlap-good earlier (good q) r e = by-test (crossesAny earlier q) refl e
     by-test : (t : Bool) → crossesAny earlier q ≡ t → cond t (bad 7) (good q) ≡ good r → (good q ≡ good r) × (crossesAny earlier r ≡ false)
     by-test true x z = let y : _≡_ {A = ℕ} 0 1 = cc in absurd (omega arith)
     by-test false x z = let f : q ≡ r = cc in (z, (rw f at x))
-
-pub and-right : (a b : Bool) → (a && b) ≡ true → b ≡ true
-and-right true b e = e
-and-right false b e = absurd (false≢true e)
 
 -- defect 5: first not above last
 pub first-last : (r : Record) → goodContents r ≡ true → firstOf r ≤ lastOf r

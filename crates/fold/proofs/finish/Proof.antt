@@ -1,15 +1,13 @@
 -- The verdict, the room, and then the start and the records written (Finals.antt).
 use borrow.Author.Needs.{needs}
 use mathlib.Core.Path.{sym, _∙_, ap}
-use mathlib.Core.List.{_++_}
 use Prim.Native.Nat.{ℕ, _+_, _-_}
 use native.Mathlib.Omega.{arith}
-use lib.ListN.{take, drop, length-take}
+use lib.ListN.{take, length-take}
 use denote.Ref.{now}
 use lib.Seq.{length-take-le}
 use Rattle.image.proofs.Walk.{start-length}
 use Rattle.merged.specs.Held.{entriesAt}
-use Rattle.output.specs.Writing.{Written}
 use Rattle.output.proofs.Writing.{written-both}
 use Rattle.fold.proofs.Finals.{finish-bad, finish-full, finish-written, image-size}
 use Rattle.fold.proofs.finish.Statement.{statement}

@@ -1,11 +1,8 @@
 -- The changes applied, and the final image (Finals.antt).
 use borrow.Author.Needs.{needs}
-use mathlib.Core.Path.{_≡_}
 use native.Mathlib.Omega.{arith}
-use denote.Ref.{now}
-use Rattle.image.specs.Image.{sound, imageOf}
-use Rattle.image.specs.Part.{recordsOf}
-use Rattle.image.proofs.Soundness.{is-sound, opens, few-bytes}
+use Rattle.image.specs.Image.{sound}
+use Rattle.image.proofs.Soundness.{opens, few-bytes}
 use Rattle.final_list.proofs.Changes.{is-read, after-merged}
 use Rattle.fold.proofs.Finals.{fold-refused, fold-finished}
 use Rattle.fold.proofs.fold_sound.Statement.{statement}

@@ -1,7 +1,6 @@
 -- The fields, read one after another, are all there exactly if the record is whole (Passing.antt).
-use mathlib.Core.Path.{_∙_, ap}
+use mathlib.Core.Path.{ap}
 use Prim.Native.Nat.{_*_}
-use native.Mathlib.Omega.{arith}
 use denote.Ref.{now}
 use Rattle.record_defect.proofs.Passing.{named-is, block-is}
 use borrow.Author.Needs.{needs}
