@@ -19,8 +19,8 @@ fn size_of(address: &[u8]) -> usize
 // The text of an address of four bytes or sixteen. Its bytes are counted only where there is less room than the family may need.
 fn write(address: &[u8], text: &mut [u8]) -> Counted
     requires { ⌜ Wide (length (now address)) ⌝ }
-    ensures { λ r. ⌜ r ≡ writtenOf (now (address .entry)) (length (now (text .entry))) ⌝ }
-    ensures { λ r. ⌜ now (text .exit) ≡ textAfter (now (address .entry)) (now (text .entry)) ⌝ }
+    ensures numbers { λ r. ⌜ r ≡ writtenOf (now (address .entry)) (length (now (text .entry))) ⌝ }
+    ensures text { λ r. ⌜ now (text .exit) ≡ textAfter (now (address .entry)) (now (text .entry)) ⌝ }
 {
     let most = if address.len() == 4 { 15 } else { 39 };
     if text.len() < most {
@@ -41,8 +41,8 @@ fn write(address: &[u8], text: &mut [u8]) -> Counted
 
 // Writes the text of an address to the front of the buffer, if it has room for it.
 pub fn address_text(address: &[u8], text: &mut [u8]) -> Counted
-    ensures { λ r. ⌜ r ≡ writtenOf (now (address .entry)) (length (now (text .entry))) ⌝ }
-    ensures { λ r. ⌜ now (text .exit) ≡ textAfter (now (address .entry)) (now (text .entry)) ⌝ }
+    ensures numbers { λ r. ⌜ r ≡ writtenOf (now (address .entry)) (length (now (text .entry))) ⌝ }
+    ensures text { λ r. ⌜ now (text .exit) ≡ textAfter (now (address .entry)) (now (text .entry)) ⌝ }
 {
     let n = address.len();
     if n == 4 {

@@ -132,8 +132,8 @@ fn fold_sound<'a>(
 }
 
 pub fn fold<'a>(image: &'a [u8], changes: &'a [u8], out: &mut [u8]) -> Folded
-    ensures { λ r. ⌜ r ≡ foldedOf (foldOf (now (image .entry)) (now (changes .entry)) (length (now (out .entry)))) ⌝ }
-    ensures { λ r. ⌜ now (out .exit) ≡ outAfter (foldOf (now (image .entry)) (now (changes .entry)) (length (now (out .entry)))) (now (out .entry)) ⌝ }
+    ensures numbers { λ r. ⌜ r ≡ foldedOf (foldOf (now (image .entry)) (now (changes .entry)) (length (now (out .entry)))) ⌝ }
+    ensures out { λ r. ⌜ now (out .exit) ≡ outAfter (foldOf (now (image .entry)) (now (changes .entry)) (length (now (out .entry)))) (now (out .entry)) ⌝ }
 {
     let mut starts = [0u32; MOST_RECORDS];
     match index(image, &mut starts) {

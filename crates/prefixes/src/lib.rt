@@ -39,8 +39,8 @@ fn check_room(first: Words, last: Words, width: usize, bytes: usize) -> Fit
 // The prefixes of a range whose addresses have so many bytes.
 fn listed(range: &[u8], width: usize, out: &mut [u8]) -> Counted
     requires { ⌜ Wide width × (length (now range) ≡ 2 * width) ⌝ }
-    ensures { λ r. ⌜ r ≡ prefixedOf (ipRange width (now (range .entry))) (length (now (out .entry))) ⌝ }
-    ensures { λ r. ⌜ now (out .exit) ≡ bufferAfter (ipRange width (now (range .entry))) (now (out .entry)) ⌝ }
+    ensures numbers { λ r. ⌜ r ≡ prefixedOf (ipRange width (now (range .entry))) (length (now (out .entry))) ⌝ }
+    ensures out { λ r. ⌜ now (out .exit) ≡ bufferAfter (ipRange width (now (range .entry))) (now (out .entry)) ⌝ }
 {
     let first = words_at(range, 0, width);
     let last = words_at(range, width, width);
@@ -64,8 +64,8 @@ fn listed(range: &[u8], width: usize, out: &mut [u8]) -> Counted
 
 // The prefixes of a range of addresses, first then last, of 4 or 16 bytes each: to the front of the buffer, each as its address and its length.
 pub fn prefixes(range: &[u8], out: &mut [u8]) -> Counted
-    ensures { λ r. ⌜ r ≡ prefixedOf (ipRangeOf (now (range .entry))) (length (now (out .entry))) ⌝ }
-    ensures { λ r. ⌜ now (out .exit) ≡ bufferAfter (ipRangeOf (now (range .entry))) (now (out .entry)) ⌝ }
+    ensures numbers { λ r. ⌜ r ≡ prefixedOf (ipRangeOf (now (range .entry))) (length (now (out .entry))) ⌝ }
+    ensures out { λ r. ⌜ now (out .exit) ≡ bufferAfter (ipRangeOf (now (range .entry))) (now (out .entry)) ⌝ }
 {
     let n = range.len();
     if n == 8 {
