@@ -8,6 +8,7 @@ use borrow.Author.Tests.{le-leb, lt-leb, leb-true, eq-eqb, ne-eqb, eqb-true, eqb
 use lib.Dec.{leb, eqb}
 use lib.ListN.{length, getD, take, drop, length-take, length-drop}
 use lib.Seq.{slice, take-all, slice-cons, length-slice}
+use Rattle.octets.proofs.Connectives.{and-right}
 use Rattle.registry.specs.Tags.{isKnown, widthOf}
 use Rattle.address.specs.Ranges.{wellFormed}
 use Rattle.octets.specs.Positions.{numberIn}
@@ -18,7 +19,6 @@ use Rattle.fields.specs.declared.Field.the-variants.{Whole, Short}
 use Rattle.texts.specs.Texts.{goodText, goodHost}
 use Rattle.records.specs.Record.{Record, goodName}
 use Rattle.records.specs.Judge.{Judged, bad, good, judge}
-use Rattle.records.proofs.Accepted.{and-right}
 use Rattle.records.proofs.Shapes.{no-block, a-block}
 use Rattle.image.specs.Image.{sound, imageFrom}
 use Rattle.image.specs.Part.{recordsOf}
