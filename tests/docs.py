@@ -45,21 +45,27 @@ for rule in sorted(rules):
     check(section in ("S1", rule) or re.search(rf"\b{re.escape(rule)}\b|^\| {section} ", promises, re.M), f"PROMISES.md: no row for {rule}")
 
 # Functions, definitions and must-fail edits that the documents name.
-sources = "\n".join(text(p) for p in CRATES.rglob("*.rt"))
+crates = {p.name for p in CRATES.iterdir()}
+sources = {crate: "\n".join(text(p) for p in (CRATES / crate).rglob("*.rt")) for crate in crates}
 logic = "\n".join(text(p) for p in CRATES.rglob("*.antt"))
 edits = {str(p.relative_to(CRATES)).replace("/must-fail/", "/")[:-5] for p in CRATES.glob("*/must-fail/*.edit")}
-crates = {p.name for p in CRATES.iterdir()}
 for name in ("PROMISES.md", "DECISIONS.md", "PROVING.md", "ARCHITECTURE.md"):
     for quoted in sorted(set(re.findall(r"`([^`\n]+)`", document(name)))):
-        function = re.fullmatch(r"([a-z0-9_]+)::(?:[a-z_]+::)?([A-Za-z_]+)(?:::[a-z_]+)?(?:\(.*\))?", quoted)
+        function = re.fullmatch(r"([a-z0-9_]+)::(?:[a-z_]+::)?([A-Za-z_0-9]+)(?:::[a-z_]+)?(?:\(.*\))?", quoted)
         edit = re.fullmatch(r"([a-z0-9_]+)/([a-z_0-9]*)(\.\.)?", quoted)
         if function and function[1] in crates:
-            check(re.search(rf"\b(fn|struct|enum|const) {function[2]}\b", sources), f"{name}: no {quoted}")
+            check(re.search(rf"\b((fn|struct|enum|const) |pub use \w+::){function[2]}\b", sources[function[1]]), f"{name}: no {quoted}")
         elif edit and edit[1] in crates and edit[2] not in ("specs", "proofs", "src"):
             start = f"{edit[1]}/{edit[2]}"
             check(start in edits or (edit[3] and any(e.startswith(start) for e in edits)), f"{name}: no edit {quoted}")
         elif re.fullmatch(r"[a-z]+[A-Z][A-Za-z]+|[a-z]+(-[a-z]+)+", quoted):
             check(re.search(rf"(?<![\w-]){re.escape(quoted)}(?![\w-])", logic), f"{name}: no definition or law {quoted}")
+
+    for file in sorted(set(re.findall(r"(?<![\w/])([a-z0-9_]+/(?:specs|proofs)/[A-Za-z]\w*)", document(name)))):
+        check((CRATES / f"{file}.antt").is_file() or (CRATES / file).is_dir(), f"{name}: no file {file}")
+    for named in re.findall(r"must-fail ((?:`[^`]+`(?:, )?)+)", document(name)):
+        for edit in re.findall(r"`([^`/]+)/[^`]+`", named):
+            check(edit in crates, f"{name}: no crate {edit}")
 
 # All that knows a rule: the tables, and the functions of the tests in Rust.
 folders = {"model": "tests/model/src", "fast": "bench/fast/src", "generator": "tests/model/src/generate"}
@@ -83,7 +89,9 @@ for row in table.split("\n")[2:]:
         crate = named[1] or crate
         believed[crate, named[2]] = int(named[3])
 for (crate, name), lines in believed.items():
-    whole = text(CRATES / crate / "specs" / f"{name}.antt")
+    file = CRATES / crate / "specs" / f"{name}.antt"
+    check(file.is_file(), f"ARCHITECTURE.md: no {crate}/specs/{name}")
+    whole = text(file) if file.is_file() else ""
     check(whole.count("\n") == lines, f"ARCHITECTURE.md: {crate}/specs/{name} has {whole.count(chr(10))} lines, not {lines}")
     for used in re.findall(r"^(?:pub )?use Rattle·(\w+?)(?:·specs)?\.specs(?:\.specs)?\.(\w+)", whole, re.M):
         check(used[1] == "declared" or used in believed, f"ARCHITECTURE.md: {crate}/specs/{name} uses {used[0]}/specs/{used[1]}")

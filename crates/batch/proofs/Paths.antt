@@ -9,7 +9,7 @@ use Rattle.image.specs.Image.{Image, imageOf}
 use Rattle.image.specs.Checking.{verdictOf}
 use Rattle.image.specs.declared.Verdict.the-variants.{Sound}
 use Rattle.image.proofs.Soundness.{is-sound}
-use Rattle.query.specs.declared.Kind.the-variants as Kind
+use Rattle.kinds.specs.declared.Kind.the-variants as Kind
 use Rattle.answers.specs.declared.Answer.{Answer}
 use Rattle.answers.specs.Reply.{ofReason, refusal, listAfter}
 use Rattle.answers.specs.Answered.{replyOf, Answered}

@@ -6,7 +6,7 @@ ghost use Rattle.batches.specs.Batch.{pathsOf, batchIn};
 use answers::Answer;
 use batch_paths::answer_paths;
 use batch_paths::count_paths;
-use query::Kind;
+use kinds::Kind;
 use registry::MOST_PATHS;
 use registry::PerRecord;
 

@@ -19,7 +19,7 @@ fn write_head(a: Answer, list: &mut [u32])
     let kind = a.kind;
     list[0] = a.status;
     list[1] = a.reason;
-    list[2] = answers::kind_number(kind);
+    list[2] = kinds::kind_number(kind);
     list[3] = a.count;
 }
 
@@ -34,7 +34,7 @@ pub fn answer_path(
     requires { ⌜ Indexed (now image) count (now starts) × (4 ≤ length (now list)) ⌝ }
     ensures { λ r. ⌜ LineWritten (now (path .entry)) (imageOf (now (image .entry))) (now (list .entry)) (now (list .exit)) r ⌝ }
 {
-    let a = calls::answer(path, image, starts, count, &mut list[4..]);
+    let a = first_call::answer(path, image, starts, count, &mut list[4..]);
     write_head(a, list);
     4 + answers::reports(a) as usize
 }

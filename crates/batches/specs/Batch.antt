@@ -8,7 +8,7 @@ use lib.ListN.{length}
 use Rattle.octets.specs.Split.{split}
 use Rattle.registry.specs.Limits.{mostPaths}
 use Rattle.image.specs.Image.{Image, sound, defective, imageOf}
-use Rattle.query.specs.declared.Kind.the-variants as Kind
+use Rattle.kinds.specs.declared.Kind.the-variants as Kind
 use Rattle.answers.specs.Reply.{Reply, ofReason, refusal, ofDefect, line}
 use Rattle.calls.specs.Calls.{answerIn}
 

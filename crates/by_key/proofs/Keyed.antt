@@ -8,7 +8,7 @@ use lib.ListN.{length, getD}
 use lib.Seq.{slice, length-slice}
 use Rattle.registry.specs.Tags.{widthOf}
 use Rattle.records.specs.Record.{Record}
-use Rattle.records.specs.Positions.{bytesOf, handleSpan, nameSpan}
+use Rattle.records.specs.Positions.{bytesOf, Inside, handleSpan, nameSpan}
 use Rattle.records.specs.declared.Span.{Span}
 use Rattle.records.proofs.Shapes.{no-block, a-block}
 use Rattle.merged.specs.Held.{parsedFrom, Recorded}
@@ -33,6 +33,12 @@ module _ (s : List ℕ) (k : Recorded s) where
   block-read w e h =
       let t = known s k .tag-is in
       ap (λ (x : ℕ). slice 6 (6 + 2 * x) s) (e ∙ ap widthOf t) ∙ key-block (omega (arith, t, h))
+
+  pub handle-inside : (x : Span) → x ≡ handleSpan s (getD s 0 0) 3 (length s) → Inside (length s) x
+  handle-inside x e = let k = known s k in rw (e, k .tag-is) (k .lies .handle-inside)
+
+  pub name-inside : (x : Span) → x ≡ nameSpan s (getD s 0 0) 3 (length s) → Inside (length s) x
+  name-inside x e = let k = known s k in rw (e, k .tag-is) (k .lies .name-inside)
 
   pub handle-read : (x : Span) → x ≡ handleSpan s (getD s 0 0) 3 (length s) → getD s 0 0 ≡ 21 → bytesOf s x ≡ bareKey r
   handle-read x e h =

@@ -10,10 +10,12 @@ use changes::PerEntry;
 use halves::middle;
 use merged::record_at;
 use nesting::range_after;
+use records::bytes_of;
 use records::handle_span;
 use records::name_span;
 use registry::AS_BLOCK;
 use registry::ENTITY;
+use registry::HEAD;
 use registry::RANGE_OFFSET;
 use registry::width_of;
 use words::bytes_at_most;
@@ -29,15 +31,9 @@ pub fn key_of(r: &[u8]) -> &[u8]
         return &r[RANGE_OFFSET..end];
     }
     if tag == ENTITY {
-        let handle = handle_span(r, tag, 3, r.len());
-        let start = handle.start;
-        let end = handle.end;
-        return &r[start..end];
+        return bytes_of(r, handle_span(r, tag, HEAD, r.len()));
     }
-    let name = name_span(r, tag, 3, r.len());
-    let start = name.start;
-    let end = name.end;
-    &r[start..end]
+    bytes_of(r, name_span(r, tag, HEAD, r.len()))
 }
 
 // Whether the key b comes strictly after a in the order of the image.

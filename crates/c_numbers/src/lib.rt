@@ -1,23 +1,24 @@
 // The numbers that the functions for C write: of an answer, of a part of the image, of what was written to a buffer, of a fold.
 ghost use mathlib.Core.Path.{_≡_};
 ghost use mathlib.Core.List.{[]};
-ghost use Rattle.image.specs.Entries.{spanOf};
+ghost use Prim.Native.Nat.{_≤_};
+ghost use Rattle.registry.specs.Limits.{mostImage};
 ghost use Rattle.changes.specs.Fold.{Folding};
-ghost use Rattle.fold.specs.Call.{foldedOf};
+ghost use Rattle.final_image.specs.Call.{foldedOf};
 ghost use Rattle.answers.specs.Answered.{replyOf};
 ghost use Rattle.c_numbers.specs.Numbers.{numbersOf, partNumbers, countedNumbers, foldingNumbers};
 use answers::Answer;
-use fold::Folded;
+use final_image::Folded;
 use output::Counted;
-use registry::Part;
+use records::Span;
 
 // The numbers of an answer.
 pub fn numbers(a: Answer) -> [u32; 7]
     ensures { λ r. ⌜ r ≡ numbersOf (replyOf a []) ⌝ }
 {
     let k = a.kind;
-    let kind = answers::kind_number(k);
-    let relation = answers::relation_number(k);
+    let kind = kinds::kind_number(k);
+    let relation = kinds::relation_number(k);
     let status = a.status;
     let reason = a.reason;
     let count = a.count;
@@ -26,11 +27,11 @@ pub fn numbers(a: Answer) -> [u32; 7]
     [status, reason, kind, relation, count, defect, place]
 }
 
-// Offset and length of a part of a record in the image.
-pub fn part_numbers(image: &[u8], record_number: u32, which: Part) -> [u32; 2]
-    ensures { λ r. ⌜ r ≡ partNumbers (spanOf (now (image .entry)) record_number which) ⌝ }
+// Offset and length of a part of an image.
+pub fn span_numbers(span: Span) -> [u32; 2]
+    requires { ⌜ (span .start ≤ span .end) × (span .end ≤ mostImage) ⌝ }
+    ensures { λ r. ⌜ r ≡ partNumbers span ⌝ }
 {
-    let span = entries::part_span(image, record_number, which);
     let start = span.start;
     let end = span.end;
     let length = end - start;

@@ -11,7 +11,7 @@ use Rattle.records.specs.Record.{Record}
 use Rattle.forest.specs.Blocks.{Block, blocksOf}
 use Rattle.forest.specs.Found.{NoBlock, Found}
 use Rattle.registry.specs.declared.Relation.the-variants.{Up, Top}
-use Rattle.query.specs.declared.Kind.{Kind}
+use Rattle.kinds.specs.declared.Kind.{Kind}
 use Rattle.segment.specs.Target.{Target}
 use Rattle.query.specs.Query.{blockLookup, blockRelation}
 use Rattle.calls.specs.Calls.{answerOf, relationOf}

@@ -10,7 +10,8 @@ use Rattle.octets.proofs.Below.{digits-none, digits-cons}
 use Rattle.numeral.specs.Digits.{decimalText, spelled}
 use Rattle.numeral.proofs.Spelled.{following-append, following-most, spelled-most}
 use Rattle.answers.specs.declared.Answer.{Answer}
-use Rattle.answers.specs.Reply.{kindNumber, line}
+use Rattle.kinds.specs.Numbers.{kindNumber}
+use Rattle.answers.specs.Reply.{line}
 use Rattle.answers.specs.Answered.{replyOf}
 use Rattle.line_text.specs.Line.{following, spaced, lineText}
 

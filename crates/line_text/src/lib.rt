@@ -15,7 +15,7 @@ pub fn put_line(a: Answer, list: &[u32], reported: usize, out: &mut [u8]) -> usi
     ensures { λ r. ⌜ Written (lineText (replyOf a (take reported (now (list .entry))))) (now (out .entry)) (now (out .exit)) r ⌝ }
 {
     let kind = a.kind;
-    let head = [a.status, a.reason, answers::kind_number(kind), a.count];
+    let head = [a.status, a.reason, kinds::kind_number(kind), a.count];
     let mut at = put_spelled(b' ', Base::Decimal, &head, out);
     at += put_following(b' ', Base::Decimal, &list[..reported], &mut out[at..]);
     out[at] = b'\n';

@@ -13,7 +13,7 @@ use registry::IMAGE_END;
 use registry::PerRecord;
 
 // The field that starts at a position; nothing where no whole field stands.
-fn field_bytes(s: &[u8], at: usize) -> &[u8]
+pub fn field_bytes(s: &[u8], at: usize) -> &[u8]
     ensures { λ r. ⌜ now r ≡ fieldBytes (now (s .entry)) at ⌝ }
 {
     match step_at(s, at) {

@@ -7,13 +7,13 @@ ghost use Rattle.calls.specs.Calls.{answerOf, relationOf};
 ghost use Rattle.batches.specs.Batch.{batchOf};
 ghost use Rattle.prefixes.specs.Call.{ipRangeOf, prefixedOf, bufferAfter};
 ghost use Rattle.changes.specs.Fold.{foldOf};
-ghost use Rattle.fold.specs.Call.{outAfter};
+ghost use Rattle.final_image.specs.Call.{outAfter};
 ghost use Rattle.address_text.specs.Call.{writtenOf, textAfter};
 ghost use Rattle.c_numbers.specs.Numbers.{numbersOf, partNumbers, countedNumbers, foldingNumbers};
 use c_numbers::counted_numbers;
 use c_numbers::folding_numbers;
 use c_numbers::numbers;
-use c_numbers::part_numbers;
+use c_numbers::span_numbers;
 use registry::Part;
 use registry::Relation;
 
@@ -85,6 +85,14 @@ pub extern "C" fn rdap_bottom(
 {
     let a = rdap::relation(image, record_number, Relation::Bottom, list);
     *reply = numbers(a);
+}
+
+// Offset and length of a part of a record in the image.
+fn part_numbers(image: &[u8], record_number: u32, which: Part) -> [u32; 2]
+    ensures { λ r. ⌜ r ≡ partNumbers (spanOf (now (image .entry)) record_number which) ⌝ }
+{
+    let span = entries::part_span(image, record_number, which);
+    span_numbers(span)
 }
 
 // The handle of a record, as offset and length in the image; 0 and 0 if the image is defective or there is no such record.

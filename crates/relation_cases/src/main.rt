@@ -33,7 +33,7 @@ fn ask(image: &[u8], record: u32, relation: Relation, list: &mut [u32]) {
     let count = a.count;
     number(a.status);
     next_number(reason);
-    next_number(answers::kind_number(kind));
+    next_number(kinds::kind_number(kind));
     next_number(count);
     let found = if reason == 0 { count } else { 0 };
     records(list, found as usize);

@@ -4,7 +4,7 @@ ghost use Rattle.image.specs.Index.{Indexed};
 ghost use Rattle.answers.specs.Answered.{AnsweredBy};
 ghost use Rattle.calls.specs.Calls.{recordIn};
 use answers::Answer;
-use query::Kind;
+use kinds::Kind;
 use registry::AS_BLOCK;
 use registry::PerRecord;
 use registry::RANGE_OFFSET;

@@ -19,29 +19,8 @@ Inv-loop s at width bytes₀ pad i₀ bytes i =
 abbrev μ-loop : tie.MeasureT-loop
 μ-loop s at width bytes₀ pad i₀ bytes i = width - i
 
-sub-pad : tie.Need-sub-pad Inv-loop μ-loop
-sub-pad c = search needs
-
 loop-holds : tie.Need-loop-holds Inv-loop μ-loop
 loop-holds c = (refl, search needs, paste-zero (replicate 16 0) (16 - c .args .width) (drop (c .args .at) (now (c .args .s))))
-
-add-bytes : tie.Need-add-bytes Inv-loop μ-loop
-add-bytes c = search needs
-
-shared-slice-read-bytes : tie.Need-shared-slice-read-bytes Inv-loop μ-loop
-shared-slice-read-bytes c = search needs
-
-add-bytes-2 : tie.Need-add-bytes-2 Inv-loop μ-loop
-add-bytes-2 c = search needs
-
-array-write-bytes : tie.Need-array-write-bytes Inv-loop μ-loop
-array-write-bytes c = search needs
-
-add-i : tie.Need-add-i Inv-loop μ-loop
-add-i c = search needs
-
-loop-less : tie.Need-loop-less Inv-loop μ-loop
-loop-less c = search needs
 
 loop-again : tie.Need-loop-again Inv-loop μ-loop
 loop-again c =
@@ -67,13 +46,13 @@ address-at-spec =
     (tie.spec
     Inv-loop
     μ-loop
-    sub-pad
+    (λ c. search needs)
     loop-holds
-    add-bytes
-    shared-slice-read-bytes
-    add-bytes-2
-    array-write-bytes
-    add-i
-    loop-less
+    (λ c. search needs)
+    (λ c. search needs)
+    (λ c. search needs)
+    (λ c. search needs)
+    (λ c. search needs)
+    (λ c. search needs)
     loop-again
     returns)

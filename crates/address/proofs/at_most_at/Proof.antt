@@ -4,18 +4,9 @@ use borrow.Author.Needs.{needs}
 use Rattle.address.proofs.at_most_at.Statement.{statement}
 use Rattle.address.proofs.at_most_at.Tie as tie
 
-words-of-requires : tie.Need-words-of-requires
-words-of-requires c κs = search needs
-
-words-at-requires : tie.Need-words-at-requires
-words-at-requires c κs = search needs
-
-words-at-most-requires : tie.Need-words-at-most-requires
-words-at-most-requires c κs = search needs
-
 returns : tie.Need-returns
 returns c = c .words-at-most .ensures ∙ rw (c .before .before .words-of .ensures, c .before .words-at .ensures)
 
 pub at-most-at-spec : {M : Type 1} → statement M
 at-most-at-spec =
-    tie.close (tie.spec words-of-requires words-at-requires words-at-most-requires returns)
+    tie.close (tie.spec (λ c κs. search needs) (λ c κs. search needs) (λ c κs. search needs) returns)

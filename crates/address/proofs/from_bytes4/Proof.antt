@@ -8,16 +8,10 @@ use borrow.Author.Needs.{needs}
 use Rattle.address.proofs.from_bytes4.Statement.{statement}
 use Rattle.address.proofs.from_bytes4.Tie as tie
 
-slice-aggregate-address-at : tie.Need-slice-aggregate-address-at
-slice-aggregate-address-at c = search needs
-
-address-at-requires : tie.Need-address-at-requires
-address-at-requires c κs = search needs
-
 returns : tie.Need-returns
 returns c =
     let b = c .before .before .args .t1 in
     ap number (c .address-at .ensures) ∙ number-at b 0 4 ∙ ap value (take-all 4 b (omega arith))
 
 pub from-bytes4-spec : {M : Type 1} → statement M
-from-bytes4-spec = tie.close (tie.spec slice-aggregate-address-at address-at-requires returns)
+from-bytes4-spec = tie.close (tie.spec (λ c. search needs) (λ c κs. search needs) returns)

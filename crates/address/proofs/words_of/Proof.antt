@@ -7,9 +7,6 @@ use borrow.Author.Needs.{needs}
 use Rattle.address.proofs.words_of.Statement.{statement}
 use Rattle.address.proofs.words_of.Tie as tie
 
-slice-aggregate-pair-at : tie.Need-slice-aggregate-pair-at
-slice-aggregate-pair-at c = search needs
-
 pair-at-requires : tie.Need-pair-at-requires
 pair-at-requires c κs = let l : length (c .before .before .args .a .bytes) ≡ 16 = search needs in omega arith
 
@@ -17,4 +14,4 @@ returns : tie.Need-returns
 returns c = c .pair-at .ensures ∙ number-whole (c .before .before .before .args .a .bytes) 16 (search needs)
 
 pub words-of-spec : {M : Type 1} → statement M
-words-of-spec = tie.close (tie.spec slice-aggregate-pair-at pair-at-requires returns)
+words-of-spec = tie.close (tie.spec (λ c. search needs) pair-at-requires returns)

@@ -30,9 +30,6 @@ module _ (c : tie.Joined1) where
 room : (c : tie.Joined2) → length (textOf (address (c .before))) ≤ length (start (c .before) .args .text .now)
 room c = ⊎-elim (λ w. omega (arith, w .1 .ensures, w .2 .left)) (λ w. omega (arith, most (c .before), w .left)) (c .if2 .came)
 
-size-of-requires : tie.Need-size-of-requires
-size-of-requires c κs = search needs
-
 cast-t11 : tie.Need-cast-t11
 cast-t11 c =
     let j = c .before .before .before in
@@ -52,9 +49,6 @@ cast-t14 c =
     let j = c .before .before .before .before .before in
     omega (arith, c .before .before .put-text .ensures .size, text-most (address j) (bytes j) (start j .pre))
 
-same-length : tie.Need-same-length
-same-length c = search needs
-
 returns-2 : tie.Need-returns-2
 returns-2 c =
     let j = c .before .before .before .before .before in
@@ -64,4 +58,4 @@ returns-2 c =
 pub write-spec : {M : Type 1} → statement M
 write-spec =
     tie.close
-    (tie.spec size-of-requires cast-t11 returns put-text-requires cast-t14 same-length returns-2)
+    (tie.spec (λ c κs. search needs) cast-t11 returns put-text-requires cast-t14 (λ c. search needs) returns-2)

@@ -21,15 +21,6 @@ use Rattle.applying.proofs.Applying.{record-start, add-there, add-here,
 use Rattle.applying.proofs.add.Statement.{statement}
 use Rattle.applying.proofs.add.Tie as tie
 
-sub-r : tie.Need-sub-r
-sub-r c = search needs
-
-part-r-start : tie.Need-part-r-start
-part-r-start c = search needs
-
-part-r-end : tie.Need-part-r-end
-part-r-end c = search needs
-
 part : (c : tie.After-shared-slice-known) → take (c .before .args .end - c .before .args .start) (drop (c .before .args .start) (now (c .before .args .changes))) ≡ slice (c .before .args .start) (c .before .args .end) (now (c .before .args .changes))
 part c = part-slice (c .before .args .start) (c .before .args .end) (now (c .before .args .changes)) (c .before .pre .2)
 
@@ -78,12 +69,6 @@ returns c =
     let a = start k in
     record { is = same k _ (add-there (a .pre .0) _ (whole (k .before .before .before .before)) _ _ refl (k .key-of .ensures) _ (c .before .is-there .ensures) (c .if1 .taken)); full = a .pre .0 .full }
 
-add-insert-at : tie.Need-add-insert-at
-add-insert-at c = search needs
-
-cast-insert-at : tie.Need-cast-insert-at
-cast-insert-at c = search needs
-
 insert-at-requires : tie.Need-insert-at-requires
 insert-at-requires c κs =
     let e = c .before .before in
@@ -102,15 +87,15 @@ pub add-spec : {M : Type 1} → statement M
 add-spec =
     tie.close
     (tie.spec
-    sub-r
-    part-r-start
-    part-r-end
+    (λ c. search needs)
+    (λ c. search needs)
+    (λ c. search needs)
     shared-slice-read-tag
     key-of-requires
     rank-requires
     is-there-requires
     returns
-    add-insert-at
-    cast-insert-at
+    (λ c. search needs)
+    (λ c. search needs)
     insert-at-requires
     returns-2)

@@ -29,9 +29,6 @@ change-at-requires c κs =
     let m = c .before .before .loop .inv in
     (m .0 .inside, c .before .before .before .before .before .pre .2, m .1)
 
-enum-known-start : tie.Need-enum-known-start Inv-loop μ-loop
-enum-known-start c = search needs
-
 abbrev inside : tie.After-start Inv-loop μ-loop → tie.In-loop Inv-loop μ-loop
 inside s = s .before .before .before .before
 
@@ -76,9 +73,6 @@ loop-again c =
     let x = added s in
     (reach-next m (a .pre .2) (x .0) _ _ (c .before .add .ensures .full) (rw (not-false (c .before .add .result) (c .if1 .left)) at (c .before .add .ensures .is)) (added-long m (a .pre .2) (x .0) (x .1)), s .before .before .change-at .ensures .1)
 
-enum-known-start-2 : tie.Need-enum-known-start-2 Inv-loop μ-loop
-enum-known-start-2 c = search needs
-
 abbrev inside2 : tie.After-start2 Inv-loop μ-loop → tie.In-loop Inv-loop μ-loop
 inside2 s = s .before .before .before .before
 
@@ -120,9 +114,6 @@ loop-again-2 c =
     let x = removed s .0 in
     (reach-next m (a .pre .2) x _ _ (c .before .remove .ensures .0 .full) (rw (not-false (c .before .remove .result) (c .if2 .left)) at (c .before .remove .ensures .0 .is)) (omega (arith, m .few, x .after, x .forward)), s .before .before .change-at .ensures .1)
 
-enum-told : tie.Need-enum-told Inv-loop μ-loop
-enum-told c = search needs
-
 returns-3 : tie.Need-returns-3 Inv-loop μ-loop
 returns-3 c =
     let i = c .before .before .before .before in
@@ -144,18 +135,18 @@ apply-spec =
     μ-loop
     loop-holds
     change-at-requires
-    enum-known-start
+    (λ c. search needs)
     add-requires
     returns
     add-n
     loop-less
     loop-again
-    enum-known-start-2
+    (λ c. search needs)
     remove-requires
     returns-2
     sub-n
     loop-less-2
     loop-again-2
-    enum-told
+    (λ c. search needs)
     returns-3
     returns-4)

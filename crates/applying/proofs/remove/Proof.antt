@@ -19,21 +19,6 @@ use Rattle.applying.proofs.Applying.{remove-absent, remove-start, remov
 use Rattle.applying.proofs.remove.Statement.{statement}
 use Rattle.applying.proofs.remove.Tie as tie
 
-shared-slice-read-tag : tie.Need-shared-slice-read-tag
-shared-slice-read-tag c = search needs
-
-add-from : tie.Need-add-from
-add-from c = search needs
-
-sub-key : tie.Need-sub-key
-sub-key c = search needs
-
-part-key-start : tie.Need-part-key-start
-part-key-start c = search needs
-
-part-key-end : tie.Need-part-key-end
-part-key-end c = search needs
-
 abbrev start : tie.After-key → tie.Start
 start k = k .before .before .before .before
 
@@ -87,11 +72,11 @@ pub remove-spec : {M : Type 1} → statement M
 remove-spec =
     tie.close
     (tie.spec
-    shared-slice-read-tag
-    add-from
-    sub-key
-    part-key-start
-    part-key-end
+    (λ c. search needs)
+    (λ c. search needs)
+    (λ c. search needs)
+    (λ c. search needs)
+    (λ c. search needs)
     rank-requires
     is-there-requires
     returns

@@ -8,12 +8,6 @@ use borrow.Author.Needs.{needs}
 use Rattle.batch.proofs.answer.Statement.{statement}
 use Rattle.batch.proofs.answer.Tie as tie
 
-count-paths-requires : tie.Need-count-paths-requires
-count-paths-requires c κs = search needs
-
-reply-requires : tie.Need-reply-requires
-reply-requires c κs = search needs
-
 returns : tie.Need-returns
 returns c =
     let start = c .before .before .before .before .before .before in
@@ -22,12 +16,6 @@ returns c =
 
 answer-paths-requires : tie.Need-answer-paths-requires
 answer-paths-requires c κs = (c .before .before .before .before .before .before .pre, omega (arith, c .before .if1 .left, c .before .before .count-paths .ensures))
-
-reply-requires-2 : tie.Need-reply-requires-2
-reply-requires-2 c κs = search needs
-
-same-length : tie.Need-same-length
-same-length c = search needs
 
 returns-2 : tie.Need-returns-2
 returns-2 c =
@@ -40,10 +28,10 @@ pub answer-spec : {M : Type 1} → statement M
 answer-spec =
     tie.close
     (tie.spec
-    count-paths-requires
-    reply-requires
+    (λ c κs. search needs)
+    (λ c κs. search needs)
     returns
     answer-paths-requires
-    reply-requires-2
-    same-length
+    (λ c κs. search needs)
+    (λ c. search needs)
     returns-2)

@@ -9,23 +9,11 @@ use borrow.Author.Needs.{needs}
 use Rattle.batch_line.proofs.write_head.Statement.{statement}
 use Rattle.batch_line.proofs.write_head.Tie as tie
 
-slice-write-list : tie.Need-slice-write-list
-slice-write-list c = search needs
-
 slice-write-list-2 : tie.Need-slice-write-list-2
 slice-write-list-2 c = simp length-set (omega arith)
 
-kind-number-requires : tie.Need-kind-number-requires
-kind-number-requires c κs = search needs
-
 slice-write-list-3 : tie.Need-slice-write-list-3
 slice-write-list-3 c = simp length-set (omega arith)
-
-slice-write-list-4 : tie.Need-slice-write-list-4
-slice-write-list-4 c = search needs
-
-same-length : tie.Need-same-length
-same-length c = search needs
 
 returns : tie.Need-returns
 unfolding line replyOf
@@ -35,10 +23,10 @@ pub write-head-spec : {M : Type 1} → statement M
 write-head-spec =
     tie.close
     (tie.spec
-    slice-write-list
+    (λ c. search needs)
     slice-write-list-2
-    kind-number-requires
+    (λ c κs. search needs)
     slice-write-list-3
-    slice-write-list-4
-    same-length
+    (λ c. search needs)
+    (λ c. search needs)
     returns)

@@ -55,9 +55,6 @@ sub-answer-path-2 c = inside (c .before .before .before .before)
 part-answer-path-start-2 : tie.Need-part-answer-path-start-2 Inv-loop μ-loop
 part-answer-path-start-2 c = inside (c .before .before .before .before)
 
-part-answer-path-end-2 : tie.Need-part-answer-path-end-2 Inv-loop μ-loop
-part-answer-path-end-2 c = search needs
-
 answer-path-requires : tie.Need-answer-path-requires Inv-loop μ-loop
 answer-path-requires c κs =
     let walk = c .before .before .before .before .before in
@@ -116,7 +113,7 @@ answer-paths-spec =
     mul-answer-path
     sub-answer-path-2
     part-answer-path-start-2
-    part-answer-path-end-2
+    (λ c. search needs)
     answer-path-requires
     add-at
     add-answered

@@ -21,12 +21,6 @@ loop-holds : tie.Need-loop-holds Inv-loop μ-loop
 unfolding pathsOf
 loop-holds c = let l = ap length (from-start (code "\n") (now (c .before .args .text))) in (omega arith, omega arith, omega arith)
 
-add-n : tie.Need-add-n Inv-loop μ-loop
-add-n c = omega arith
-
-piece-end-requires : tie.Need-piece-end-requires Inv-loop μ-loop
-piece-end-requires c κs = omega arith
-
 add-start : tie.Need-add-start Inv-loop μ-loop
 add-start c = omega (arith, c .piece-end .ensures .fits)
 
@@ -51,8 +45,8 @@ count-paths-spec =
     Inv-loop
     μ-loop
     loop-holds
-    add-n
-    piece-end-requires
+    (λ c. omega arith)
+    (λ c κs. omega arith)
     add-start
     loop-less
     loop-again

@@ -8,9 +8,6 @@ use borrow.Author.Needs.{needs}
 use Rattle.bottom.proofs.bottom.Statement.{statement}
 use Rattle.bottom.proofs.bottom.Tie as tie
 
-any-inside-requires : tie.Need-any-inside-requires
-any-inside-requires c κs = search needs
-
 returns : tie.Need-returns
 returns c = bottom-none _ (asked-accepted (c .before .before .before .pre .0)) _ (c .before .any-inside .ensures) (not-true _ (c .if1 .taken)) (c .before .before .before .pre .1)
 
@@ -30,4 +27,4 @@ returns-2 c =
 
 pub bottom-spec : {M : Type 1} → statement M
 bottom-spec =
-    tie.close (tie.spec any-inside-requires returns gather-requires holders-requires returns-2)
+    tie.close (tie.spec (λ c κs. search needs) returns gather-requires holders-requires returns-2)

@@ -53,9 +53,6 @@ leads c =
     let k = p .linked (c .before .loop .j) (omega arith) (omega (arith, child c, p .gathered .counted)) in
     (k .ahead, omega (arith, k .upto, p .gathered .counted, p .gathered .few))
 
-width-of-requires : tie.Need-width-of-requires Inv-loop μ-loop
-width-of-requires c κs = search needs
-
 mul-end : tie.Need-mul-end Inv-loop μ-loop
 mul-end c = let few = c .before .before .pre .0 .gathered .few in let known = c .before .before .pre .0 .known in search needs
 
@@ -94,9 +91,6 @@ stands c = comparable-at (call c .pre .0 .gathered) _ (child c) (c .before .befo
 words-at-requires : tie.Need-words-at-requires Inv-loop μ-loop
 words-at-requires c κs = let k = stands (c .before) in (k .wide, omega (arith, k .fits))
 
-words-at-most-requires : tie.Need-words-at-most-requires Inv-loop μ-loop
-words-at-most-requires c κs = search needs
-
 returns : tie.Need-returns Inv-loop μ-loop
 returns c =
     let here = c .before .before .before .before in
@@ -108,9 +102,6 @@ add-words-at c = let k = stands (turn c) .fits in search needs
 
 words-at-requires-2 : tie.Need-words-at-requires-2 Inv-loop μ-loop
 words-at-requires-2 c κs = let k = stands (turn c) in (k .wide, omega (arith, k .fits))
-
-words-at-most-requires-2 : tie.Need-words-at-most-requires-2 Inv-loop μ-loop
-words-at-most-requires-2 c κs = search needs
 
 returns-2 : tie.Need-returns-2 Inv-loop μ-loop
 returns-2 c =
@@ -124,9 +115,6 @@ next-requires : tie.Need-next-requires Inv-loop μ-loop
 next-requires c κs =
     let start = call (turn (begun c)) in
     room 18446744073709551615 _ _ _ _ (limit-high start) (limit-low start) (leb-false _ _ (sym (c .before .words-at-most2 .ensures) ∙ c .if2 .left))
-
-greater-requires : tie.Need-greater-requires Inv-loop μ-loop
-greater-requires c κs = search needs
 
 mul-j : tie.Need-mul-j Inv-loop μ-loop
 mul-j c =
@@ -167,7 +155,7 @@ children-leave-spec =
     (tie.spec
     Inv-loop
     μ-loop
-    width-of-requires
+    (λ c κs. search needs)
     mul-end
     element-copy-out-end
     cast-end
@@ -177,14 +165,14 @@ children-leave-spec =
     element-copy-out-child
     cast-child
     words-at-requires
-    words-at-most-requires
+    (λ c κs. search needs)
     returns
     add-words-at
     words-at-requires-2
-    words-at-most-requires-2
+    (λ c κs. search needs)
     returns-2
     next-requires
-    greater-requires
+    (λ c κs. search needs)
     mul-j
     element-copy-out-j
     cast-j

@@ -61,9 +61,6 @@ add-m c = let k = few (c .before) in search needs
 add-i : tie.Need-add-i Inv-loop μ-loop
 add-i c = let k = few (c .before) in search needs
 
-loop-less : tie.Need-loop-less Inv-loop μ-loop
-loop-less c = search needs
-
 loop-again : tie.Need-loop-again Inv-loop μ-loop
 loop-again c =
     let here = c .before .before .before in
@@ -108,6 +105,6 @@ holders-spec =
     element-write-hits
     add-m
     add-i
-    loop-less
+    (λ c. search needs)
     loop-again
     returns)

@@ -27,9 +27,6 @@ both c =
     (c .greater .ensures ∙ rw (c .before .before .words-of2 .ensures, c .before .words-at2 .ensures))
     (last .lesser .ensures ∙ rw (last .before .before .words-of .ensures, last .before .words-at .ensures))
 
-width-of-requires : tie.Need-width-of-requires
-width-of-requires c κs = search needs
-
 mul-start : tie.Need-mul-start
 mul-start c = let few = c .before .before .pre .gathered .few in let known = c .before .before .pre .known in search needs
 
@@ -38,9 +35,6 @@ element-copy-out-start c = let few = c .before .before .pre .gathered .few in le
 
 cast-start : tie.Need-cast-start
 cast-start c = let a = c .before .before .before .pre .gathered .fits (c .before .before .before .args .i) (c .before .before .before .pre .known) in search needs
-
-words-of-requires : tie.Need-words-of-requires
-words-of-requires c κs = search needs
 
 add-words-at : tie.Need-add-words-at
 add-words-at c = let a = c .before .before .before .before .pre .gathered .fits (c .before .before .before .before .args .i) (c .before .before .before .before .pre .known) in search needs
@@ -51,24 +45,12 @@ words-at-requires c κs =
     let k = comparable-at (p .gathered) _ (p .known) (c .before .before .width-of .ensures .0) in
     (k .wide, omega (arith, k .fits))
 
-lesser-requires : tie.Need-lesser-requires
-lesser-requires c κs = search needs
-
-words-of-requires-2 : tie.Need-words-of-requires-2
-words-of-requires-2 c κs = search needs
-
 words-at-requires-2 : tie.Need-words-at-requires-2
 words-at-requires-2 c κs =
     let last = c .before in
     let p = call last .pre in
     let k = comparable-at (p .gathered) _ (p .known) (last .before .before .before .before .width-of .ensures .0) in
     (k .wide, omega (arith, k .fits))
-
-greater-requires : tie.Need-greater-requires
-greater-requires c κs = search needs
-
-words-at-most-requires : tie.Need-words-at-most-requires
-words-at-most-requires c κs = search needs
 
 returns : tie.Need-returns
 returns c = walk-none (call (c .before .before .before .before .before) .pre) _ _ (c .before .words-at-most .ensures) (not-true _ (c .if1 .taken)) ∙ both (c .before .before)
@@ -83,18 +65,18 @@ pub leaves-gap-spec : {M : Type 1} → statement M
 leaves-gap-spec =
     tie.close
     (tie.spec
-    width-of-requires
+    (λ c κs. search needs)
     mul-start
     element-copy-out-start
     cast-start
-    words-of-requires
+    (λ c κs. search needs)
     add-words-at
     words-at-requires
-    lesser-requires
-    words-of-requires-2
+    (λ c κs. search needs)
+    (λ c κs. search needs)
     words-at-requires-2
-    greater-requires
-    words-at-most-requires
+    (λ c κs. search needs)
+    (λ c κs. search needs)
     returns
     children-leave-requires
     returns-2)

@@ -5,9 +5,6 @@ use borrow.Author.Needs.{needs}
 use Rattle.bottom.proofs.next.Statement.{statement}
 use Rattle.bottom.proofs.next.Tie as tie
 
-add-t3 : tie.Need-add-t3
-add-t3 c = search needs
-
 returns : tie.Need-returns
 returns c = low-next 18446744073709551615 _ _
 
@@ -18,4 +15,4 @@ returns-2 : tie.Need-returns-2
 returns-2 c = high-next 18446744073709551615 _ _ (omega arith)
 
 pub next-spec : {M : Type 1} → statement M
-next-spec = tie.close (tie.spec add-t3 returns add-t4 returns-2)
+next-spec = tie.close (tie.spec (λ c. search needs) returns add-t4 returns-2)

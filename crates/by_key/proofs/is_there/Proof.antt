@@ -18,14 +18,8 @@ returns c =
     let a = c .before .before .before .before in
     there-none (a .pre .0) _ _ (a .pre .2) (c .if1 .taken)
 
-mul-record-at : tie.Need-mul-record-at
-mul-record-at c = search needs
-
 element-copy-out-record-at : tie.Need-element-copy-out-record-at
 element-copy-out-record-at c = omega (arith, c .if1 .left, c .before .before .before .before .pre .0 .few)
-
-record-at-requires : tie.Need-record-at-requires
-record-at-requires c κs = search needs
 
 comes-after-requires : tie.Need-comes-after-requires
 comes-after-requires c κs =
@@ -45,8 +39,8 @@ is-there-spec =
     tie.close
     (tie.spec
     returns
-    mul-record-at
+    (λ c. search needs)
     element-copy-out-record-at
-    record-at-requires
+    (λ c κs. search needs)
     comes-after-requires
     returns-2)

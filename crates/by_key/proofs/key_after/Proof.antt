@@ -13,9 +13,6 @@ use Rattle.by_key.proofs.key_after.Tie as tie
 returns : tie.Need-returns
 returns c = other-tags _ _ _ _ (c .if1 .taken)
 
-width-of-requires : tie.Need-width-of-requires
-width-of-requires c κs = search needs
-
 range-after-requires : tie.Need-range-after-requires
 range-after-requires c κs =
     let a = c .before .before .before .before .before in
@@ -30,9 +27,6 @@ returns-2 c =
     let h = c .before .before .if2 .taken in
     c .range-after .ensures ∙ rw (c .before .width-of .ensures .0) (range-tags (a .args .p) (a .args .q) _ _ z (a-block (a .args .q) (a .pre .1 .known) (omega (arith, z, h))) (a .pre .0 .sized h) ((rw (← z) at (a .pre .1 .sized)) h))
 
-bytes-at-most-requires : tie.Need-bytes-at-most-requires
-bytes-at-most-requires c κs = search needs
-
 returns-3 : tie.Need-returns-3
 returns-3 c =
     let a = c .before .before .before .before .before in
@@ -44,8 +38,8 @@ key-after-spec =
     tie.close
     (tie.spec
     returns
-    width-of-requires
+    (λ c κs. search needs)
     range-after-requires
     returns-2
-    bytes-at-most-requires
+    (λ c κs. search needs)
     returns-3)

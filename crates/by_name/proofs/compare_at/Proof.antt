@@ -8,19 +8,10 @@ use Rattle.octets.specs.Order.{compared}
 use Rattle.by_name.proofs.compare_at.Statement.{statement}
 use Rattle.by_name.proofs.compare_at.Tie as tie
 
-add-steps : tie.Need-add-steps
-add-steps c = search needs
-
-text-at-requires : tie.Need-text-at-requires
-text-at-requires c κs = search needs
-
-compare-requires : tie.Need-compare-requires
-compare-requires c κs = search needs
-
 returns : tie.Need-returns
 returns c =
     let start = c .before .before .before .before .before in
     (c .compare .ensures ∙ ap (λ (t : List ℕ). compared t (now (start .args .wanted))) (c .before .text-at .ensures), refl)
 
 pub compare-at-spec : {M : Type 1} → statement M
-compare-at-spec = tie.close (tie.spec add-steps text-at-requires compare-requires returns)
+compare-at-spec = tie.close (tie.spec (λ c. search needs) (λ c κs. search needs) (λ c κs. search needs) returns)

@@ -19,9 +19,6 @@ Inv-loop image starts wanted which low₀ high₀ steps₀ low high steps =
 abbrev μ-loop : tie.MeasureT-loop
 μ-loop image starts wanted which low₀ high₀ steps₀ low high steps = high - low
 
-which-of-requires : tie.Need-which-of-requires Inv-loop μ-loop
-which-of-requires c κs = search needs
-
 loop-holds : tie.Need-loop-holds Inv-loop μ-loop
 loop-holds c =
     let chosen = c .before .before .before .pre .0 in
@@ -53,12 +50,6 @@ step :
     → let l = walk c .loop in later ≡ l .steps + 1 → left ≤ (l .high - l .low) / 2 → Left later left
 step c = let l = walk c .loop in step-taken (l .steps) (l .low) (l .high) (c .before .loop-test .taken) (l .inv .1)
 
-middle-requires : tie.Need-middle-requires Inv-loop μ-loop
-middle-requires c κs = search needs
-
-cast-at : tie.Need-cast-at Inv-loop μ-loop
-cast-at c = search needs
-
 mul-at : tie.Need-mul-at Inv-loop μ-loop
 mul-at c = omega (arith, few (chosen c), in-run c)
 
@@ -73,9 +64,6 @@ compare-at-requires c κs =
     let here = c .before .before in
     let l = walk here .loop in
     (text-inside (chosen here) _ (in-run here) _, step-allowed (l .steps) (l .low) (l .high) (here .before .loop-test .taken) (l .inv .1))
-
-enum-told : tie.Need-enum-told Inv-loop μ-loop
-enum-told c = search needs
 
 add-low : tie.Need-add-low Inv-loop μ-loop
 add-low c =
@@ -94,9 +82,6 @@ loop-again c =
       step here _ _ (told .compare-at .ensures .1) (omega (arith, here .middle .ensures)),
     )
 
-enum-told-2 : tie.Need-enum-told-2 Inv-loop μ-loop
-enum-told-2 c = search needs
-
 returns : tie.Need-returns Inv-loop μ-loop
 returns c =
     let told = c .before .before in
@@ -108,9 +93,6 @@ returns c =
           one-found (start .pre .0) (start .pre .1) _ (walk here .before .which-of .ensures) (now (start .args .wanted)) _
           (omega (arith, here .middle .ensures, walk here .loop .inv .0 .starts)) (omega (arith, here .middle .ensures, in-run here)) (told-equal _ _ (sym (told .compare-at .ensures .0) ∙ c .enum-told2 .given .1));
     }
-
-enum-told-3 : tie.Need-enum-told-3 Inv-loop μ-loop
-enum-told-3 c = search needs
 
 loop-less-2 : tie.Need-loop-less-2 Inv-loop μ-loop
 loop-less-2 c = omega (arith, c .before .before .before .before .before .middle .ensures)
@@ -140,21 +122,21 @@ seek-spec =
     (tie.spec
     Inv-loop
     μ-loop
-    which-of-requires
+    (λ c κs. search needs)
     loop-holds
-    middle-requires
-    cast-at
+    (λ c κs. search needs)
+    (λ c. search needs)
     mul-at
     element-copy-out-at
     cast-at-2
     compare-at-requires
-    enum-told
+    (λ c. search needs)
     add-low
     loop-less
     loop-again
-    enum-told-2
+    (λ c. search needs)
     returns
-    enum-told-3
+    (λ c. search needs)
     loop-less-2
     loop-again-2
     returns-2)

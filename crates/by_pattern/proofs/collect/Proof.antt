@@ -33,12 +33,6 @@ chosen :
     → let a = c .before .before .before .before .before .args in Selected (now (a .image)) (now (a .starts)) (a .run)
 chosen c = c .before .before .before .before .before .pre .0
 
-cast-at : tie.Need-cast-at Inv-loop μ-loop
-cast-at c = search needs
-
-mul-at : tie.Need-mul-at Inv-loop μ-loop
-mul-at c = search needs
-
 element-copy-out-at : tie.Need-element-copy-out-at Inv-loop μ-loop
 element-copy-out-at c = omega (arith, few (chosen c))
 
@@ -48,20 +42,8 @@ cast-at-2 c = omega (arith, in-image (chosen (c .before)) (c .before .before .be
 picked-requires : tie.Need-picked-requires Inv-loop μ-loop
 picked-requires c κs = text-inside (chosen (c .before)) (c .before .before .before .loop .i) (omega arith) _
 
-mul-hits : tie.Need-mul-hits Inv-loop μ-loop
-mul-hits c = search needs
-
 element-write-hits : tie.Need-element-write-hits Inv-loop μ-loop
 element-write-hits c = omega (arith, few (chosen (c .before .before .before)))
-
-add-n : tie.Need-add-n Inv-loop μ-loop
-add-n c = search needs
-
-add-i : tie.Need-add-i Inv-loop μ-loop
-add-i c = search needs
-
-loop-less : tie.Need-loop-less Inv-loop μ-loop
-loop-less c = search needs
 
 loop-again : tie.Need-loop-again Inv-loop μ-loop
 loop-again c =
@@ -105,15 +87,15 @@ collect-spec =
     Inv-loop
     μ-loop
     loop-holds
-    cast-at
-    mul-at
+    (λ c. search needs)
+    (λ c. search needs)
     element-copy-out-at
     cast-at-2
     picked-requires
-    mul-hits
+    (λ c. search needs)
     element-write-hits
-    add-n
-    add-i
-    loop-less
+    (λ c. search needs)
+    (λ c. search needs)
+    (λ c. search needs)
     loop-again
     returns)

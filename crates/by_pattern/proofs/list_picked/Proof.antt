@@ -4,9 +4,6 @@ use Rattle.output.proofs.Reports.{in-hits, as-many, few-reported, reported}
 use Rattle.by_pattern.proofs.list_picked.Statement.{statement}
 use Rattle.by_pattern.proofs.list_picked.Tie as tie
 
-collect-requires : tie.Need-collect-requires
-collect-requires c κs = search needs
-
 array-share-prefix-hits : tie.Need-array-share-prefix-hits
 array-share-prefix-hits c = in-hits (c .collect .ensures)
 
@@ -16,9 +13,6 @@ slice-aggregate-report c = as-many (c .before .collect .ensures)
 report-requires : tie.Need-report-requires
 report-requires c κs = few-reported (c .before .before .collect .ensures)
 
-same-length : tie.Need-same-length
-same-length c = search needs
-
 returns : tie.Need-returns
 returns c = reported (c .before .before .before .before .before .collect .ensures) (c .before .before .report .ensures)
 
@@ -26,9 +20,9 @@ pub list-picked-spec : {M : Type 1} → statement M
 list-picked-spec =
     tie.close
     (tie.spec
-    collect-requires
+    (λ c κs. search needs)
     array-share-prefix-hits
     slice-aggregate-report
     report-requires
-    same-length
+    (λ c. search needs)
     returns)

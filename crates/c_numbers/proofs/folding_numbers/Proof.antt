@@ -1,7 +1,7 @@
 -- Field by field.
 use mathlib.Core.Path.{ap}
 use mathlib.Core.List.{[], _∷_}
-use Rattle.fold.specs.declared.Folded.{Folded}
+use Rattle.final_image.specs.declared.Folded.{Folded}
 use Rattle.c_numbers.specs.Numbers.{foldingNumbers}
 use Rattle.c_numbers.proofs.folding_numbers.Statement.{statement}
 use Rattle.c_numbers.proofs.folding_numbers.Tie as tie

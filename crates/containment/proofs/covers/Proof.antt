@@ -5,21 +5,12 @@ use borrow.Author.Needs.{needs}
 use Rattle.containment.proofs.covers.Statement.{statement}
 use Rattle.containment.proofs.covers.Tie as tie
 
-at-least-at-requires : tie.Need-at-least-at-requires
-at-least-at-requires c κs = search needs
-
 returns : tie.Need-returns
 returns c = covers-no _ _ (c .before .at-least-at .ensures) (not-true _ (c .if1 .taken))
-
-add-at-most-at : tie.Need-add-at-most-at
-add-at-most-at c = search needs
-
-at-most-at-requires : tie.Need-at-most-at-requires
-at-most-at-requires c κs = search needs
 
 returns-2 : tie.Need-returns-2
 returns-2 c = covers-yes _ _ (c .before .before .at-least-at .ensures) (not-false _ (c .before .if1 .left)) (c .at-most-at .ensures)
 
 pub covers-spec : {M : Type 1} → statement M
 covers-spec =
-    tie.close (tie.spec at-least-at-requires returns add-at-most-at at-most-at-requires returns-2)
+    tie.close (tie.spec (λ c κs. search needs) returns (λ c. search needs) (λ c κs. search needs) returns-2)

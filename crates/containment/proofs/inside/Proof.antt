@@ -5,21 +5,12 @@ use borrow.Author.Needs.{needs}
 use Rattle.containment.proofs.inside.Statement.{statement}
 use Rattle.containment.proofs.inside.Tie as tie
 
-at-most-at-requires : tie.Need-at-most-at-requires
-at-most-at-requires c κs = search needs
-
 returns : tie.Need-returns
 returns c = covers-no _ _ (c .before .at-most-at .ensures) (not-true _ (c .if1 .taken))
-
-add-at-least-at : tie.Need-add-at-least-at
-add-at-least-at c = search needs
-
-at-least-at-requires : tie.Need-at-least-at-requires
-at-least-at-requires c κs = search needs
 
 returns-2 : tie.Need-returns-2
 returns-2 c = covers-yes _ _ (c .before .before .at-most-at .ensures) (not-false _ (c .before .if1 .left)) (c .at-least-at .ensures)
 
 pub inside-spec : {M : Type 1} → statement M
 inside-spec =
-    tie.close (tie.spec at-most-at-requires returns add-at-least-at at-least-at-requires returns-2)
+    tie.close (tie.spec (λ c κs. search needs) returns (λ c. search needs) (λ c κs. search needs) returns-2)

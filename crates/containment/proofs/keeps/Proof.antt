@@ -6,9 +6,6 @@ use borrow.Author.Needs.{needs}
 use Rattle.containment.proofs.keeps.Statement.{statement}
 use Rattle.containment.proofs.keeps.Tie as tie
 
-strictly-inside-requires : tie.Need-strictly-inside-requires
-strictly-inside-requires c κs = search needs
-
 returns : tie.Need-returns
 returns c = keeps-no _ _ (c .before .strictly-inside .ensures) _ (not-true _ (c .if1 .taken))
 
@@ -28,7 +25,7 @@ pub keeps-spec : {M : Type 1} → statement M
 keeps-spec =
     tie.close
     (tie.spec
-    strictly-inside-requires
+    (λ c κs. search needs)
     returns
     returns-2
     add-numbers-at-most

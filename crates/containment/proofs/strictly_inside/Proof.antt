@@ -5,17 +5,11 @@ use borrow.Author.Needs.{needs}
 use Rattle.containment.proofs.strictly_inside.Statement.{statement}
 use Rattle.containment.proofs.strictly_inside.Tie as tie
 
-inside-requires : tie.Need-inside-requires
-inside-requires c κs = search needs
-
 returns : tie.Need-returns
 returns c = inside-no _ _ (c .before .inside .ensures) (not-true _ (c .if1 .taken))
-
-covers-requires : tie.Need-covers-requires
-covers-requires c κs = search needs
 
 returns-2 : tie.Need-returns-2
 returns-2 c = inside-yes _ _ (c .before .before .inside .ensures) (not-false _ (c .before .if1 .left)) (c .covers .ensures)
 
 pub strictly-inside-spec : {M : Type 1} → statement M
-strictly-inside-spec = tie.close (tie.spec inside-requires returns covers-requires returns-2)
+strictly-inside-spec = tie.close (tie.spec (λ c κs. search needs) returns (λ c κs. search needs) returns-2)

@@ -21,9 +21,6 @@ Inv-loop n base text₀ count v₀ i₀ text v i =
 abbrev μ-loop : tie.MeasureT-loop
 μ-loop n base text₀ count v₀ i₀ text v i = v
 
-count-digits-requires : tie.Need-count-digits-requires Inv-loop μ-loop
-count-digits-requires c κs = search needs
-
 sub-i : tie.Need-sub-i Inv-loop μ-loop
 sub-i c =
     let a = c .before .before .args in
@@ -37,20 +34,11 @@ loop-holds c =
     let e : suc (n - 1) ≡ n = omega (arith, c .count-digits .ensures) in
     (c .count-digits .ensures, omega (arith, c .count-digits .ensures), refl, omega (arith, c .count-digits .ensures), ap (λ (i : ℕ). numeralText (a .base) (a .n) ++ drop i (now (a .text))) e)
 
-rem-digit : tie.Need-rem-digit Inv-loop μ-loop
-rem-digit c = search needs
-
 digit-requires : tie.Need-digit-requires Inv-loop μ-loop
 digit-requires c κs =
     let a = c .before .before .before .before .args in
     let some-base : 0 < a .base = omega arith in
     omega (arith, mod-lt (c .before .loop .v) some-base)
-
-slice-write-text : tie.Need-slice-write-text Inv-loop μ-loop
-slice-write-text c = search needs
-
-div-v : tie.Need-div-v Inv-loop μ-loop
-div-v c = search needs
 
 sub-i-2 : tie.Need-sub-i-2 Inv-loop μ-loop
 sub-i-2 c =
@@ -75,15 +63,6 @@ loop-again c =
       rw (c .digit .ensures) (store-digit (a .base) (search needs) (l .v) (l .text) (l .i) (l .inv .1) (l .inv .3) (l .inv .4) (search needs) (omega (arith, l .inv .3))),
     )
 
-digit-requires-2 : tie.Need-digit-requires-2 Inv-loop μ-loop
-digit-requires-2 c κs = search needs
-
-slice-write-text-2 : tie.Need-slice-write-text-2 Inv-loop μ-loop
-slice-write-text-2 c = search needs
-
-same-length : tie.Need-same-length Inv-loop μ-loop
-same-length c = search needs
-
 returns : tie.Need-returns Inv-loop μ-loop
 returns c =
     let a = c .before .before .before .before .before .args in
@@ -99,17 +78,17 @@ put-digits-spec =
     (tie.spec
     Inv-loop
     μ-loop
-    count-digits-requires
+    (λ c κs. search needs)
     sub-i
     loop-holds
-    rem-digit
+    (λ c. search needs)
     digit-requires
-    slice-write-text
-    div-v
+    (λ c. search needs)
+    (λ c. search needs)
     sub-i-2
     loop-less
     loop-again
-    digit-requires-2
-    slice-write-text-2
-    same-length
+    (λ c κs. search needs)
+    (λ c. search needs)
+    (λ c. search needs)
     returns)

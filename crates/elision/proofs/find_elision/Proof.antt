@@ -18,17 +18,8 @@ abbrev μ-loop : tie.MeasureT-loop
 loop-holds : tie.Need-loop-holds Inv-loop μ-loop
 loop-holds c = (omega arith, omega arith)
 
-elision-at-requires : tie.Need-elision-at-requires Inv-loop μ-loop
-elision-at-requires c κs = search needs
-
 returns : tie.Need-returns Inv-loop μ-loop
 returns c = elision-here _ _ (omega arith) (sym (c .before .elision-at .ensures) ∙ c .if1 .taken) (c .before .before .before .loop .inv .1)
-
-add-i : tie.Need-add-i Inv-loop μ-loop
-add-i c = search needs
-
-loop-less : tie.Need-loop-less Inv-loop μ-loop
-loop-less c = search needs
 
 loop-again : tie.Need-loop-again Inv-loop μ-loop
 loop-again c = (omega arith, elision-on _ _ (omega arith) (sym (c .before .elision-at .ensures) ∙ c .if1 .left) (c .before .before .before .loop .inv .1))
@@ -43,9 +34,9 @@ find-elision-spec =
     Inv-loop
     μ-loop
     loop-holds
-    elision-at-requires
+    (λ c κs. search needs)
     returns
-    add-i
-    loop-less
+    (λ c. search needs)
+    (λ c. search needs)
     loop-again
     returns-2)

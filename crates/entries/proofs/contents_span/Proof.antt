@@ -5,36 +5,18 @@ use Rattle.entries.proofs.Spans.{no-contents, contents-read, end-inside
 use Rattle.entries.proofs.contents_span.Statement.{statement}
 use Rattle.entries.proofs.contents_span.Tie as tie
 
-read-requires : tie.Need-read-requires
-read-requires c κs = search needs
-
-enum-known-tag : tie.Need-enum-known-tag
-enum-known-tag c = search needs
-
-enum-told : tie.Need-enum-told
-enum-told c = search needs
-
 returns : tie.Need-returns
 returns c = no-contents _ _ _ (c .before .before .read .ensures) (c .enum-told .given .1) _
-
-enum-told-2 : tie.Need-enum-told-2
-enum-told-2 c = search needs
 
 range-span-requires : tie.Need-range-span-requires
 range-span-requires c κs =
     let f = c .before .before .before in
     end-inside _ _ _ (f .before .before .read .ensures) _ _ _ (f .tag .given .1)
 
-enum-told-3 : tie.Need-enum-told-3
-enum-told-3 c = search needs
-
 handle-span-requires : tie.Need-handle-span-requires
 handle-span-requires c κs =
     let f = c .before .before .before in
     end-inside _ _ _ (f .before .before .read .ensures) _ _ _ (f .tag .given .1)
-
-enum-told-4 : tie.Need-enum-told-4
-enum-told-4 c = search needs
 
 name-span-requires : tie.Need-name-span-requires
 name-span-requires c κs =
@@ -60,15 +42,15 @@ pub contents-span-spec : {M : Type 1} → statement M
 contents-span-spec =
     tie.close
     (tie.spec
-    read-requires
-    enum-known-tag
-    enum-told
+    (λ c κs. search needs)
+    (λ c. search needs)
+    (λ c. search needs)
     returns
-    enum-told-2
+    (λ c. search needs)
     range-span-requires
-    enum-told-3
+    (λ c. search needs)
     handle-span-requires
-    enum-told-4
+    (λ c. search needs)
     name-span-requires
     returns-2
     returns-3

@@ -20,12 +20,6 @@ abbrev μ-loop : tie.MeasureT-loop
 loop-holds : tie.Need-loop-holds Inv-loop μ-loop
 loop-holds c = halve-none (omega arith)
 
-middle-requires : tie.Need-middle-requires Inv-loop μ-loop
-middle-requires c κs = search needs
-
-cast-if1 : tie.Need-cast-if1 Inv-loop μ-loop
-cast-if1 c = search needs
-
 -- the record in the middle has a number, and its start is in the image
 numbered : (c : tie.After-middle Inv-loop μ-loop) → c .middle .result < c .before .before .before .before .args .count
 numbered c = omega (arith, c .middle .ensures, c .before .before .loop .inv .ends)
@@ -45,9 +39,6 @@ cast-if1-2 c = omega (arith, stands (c .before), few-bytes _ _ (c .before .befor
 
 shared-slice-read-if1 : tie.Need-shared-slice-read-if1 Inv-loop μ-loop
 shared-slice-read-if1 c = omega (arith, stands (c .before .before))
-
-add-low : tie.Need-add-low Inv-loop μ-loop
-add-low c = search needs
 
 loop-less : tie.Need-loop-less Inv-loop μ-loop
 loop-less c = omega (arith, c .before .before .before .middle .ensures)
@@ -79,13 +70,13 @@ first-from-spec =
     Inv-loop
     μ-loop
     loop-holds
-    middle-requires
-    cast-if1
+    (λ c κs. search needs)
+    (λ c. search needs)
     mul-if1
     element-copy-out-if1
     cast-if1-2
     shared-slice-read-if1
-    add-low
+    (λ c. search needs)
     loop-less
     loop-again
     loop-less-2

@@ -7,18 +7,6 @@ use Rattle.records.specs.declared.Span.{Span}
 use Rattle.entries.proofs.part.Statement.{statement}
 use Rattle.entries.proofs.part.Tie as tie
 
-part-span-requires : tie.Need-part-span-requires
-part-span-requires c κs = search needs
-
-sub-result : tie.Need-sub-result
-sub-result c = search needs
-
-part-result-start : tie.Need-part-result-start
-part-result-start c = search needs
-
-part-result-end : tie.Need-part-result-end
-part-result-end c = search needs
-
 returns : tie.Need-returns
 returns c =
     let span = c .before .part-span .ensures in
@@ -29,4 +17,4 @@ returns c =
     }
 
 pub part-spec : {M : Type 1} → statement M
-part-spec = tie.close (tie.spec part-span-requires sub-result part-result-start part-result-end returns)
+part-spec = tie.close (tie.spec (λ c κs. search needs) (λ c. search needs) (λ c. search needs) (λ c. search needs) returns)

@@ -10,15 +10,6 @@ use Rattle.entries.proofs.Spans.{defective-none, span-none, span-beyond
 use Rattle.entries.proofs.part_span.Statement.{statement}
 use Rattle.entries.proofs.part_span.Tie as tie
 
-index-requires : tie.Need-index-requires
-index-requires c κs = search needs
-
-enum-known-count : tie.Need-enum-known-count
-enum-known-count c = search needs
-
-enum-told : tie.Need-enum-told
-enum-told c = search needs
-
 returns : tie.Need-returns
 returns c =
     let a = c .before .before .before .before .before in
@@ -33,9 +24,6 @@ indexed c = c .before .before .index .ensures .indexed _ (c .count .given .1)
 returns-2 : tie.Need-returns-2
 returns-2 c = span-beyond _ _ _ (indexed (c .before .before) .sound) (c .if1 .taken)
 
-mul-contents-span : tie.Need-mul-contents-span
-mul-contents-span c = search needs
-
 array-read-contents-span : tie.Need-array-read-contents-span
 array-read-contents-span c = omega (arith, few-records _ _ (indexed (c .before .before) .sound), c .if1 .left)
 
@@ -43,9 +31,6 @@ cast-contents-span : tie.Need-cast-contents-span
 cast-contents-span c =
     let x = indexed (c .before .before) in
     omega (arith, start-inside _ _ _ x _ (c .if1 .left), few-bytes _ _ (x .sound))
-
-contents-span-requires : tie.Need-contents-span-requires
-contents-span-requires c κs = search needs
 
 returns-3 : tie.Need-returns-3
 returns-3 c =
@@ -57,13 +42,13 @@ pub part-span-spec : {M : Type 1} → statement M
 part-span-spec =
     tie.close
     (tie.spec
-    index-requires
-    enum-known-count
-    enum-told
+    (λ c κs. search needs)
+    (λ c. search needs)
+    (λ c. search needs)
     returns
     returns-2
-    mul-contents-span
+    (λ c. search needs)
     array-read-contents-span
     cast-contents-span
-    contents-span-requires
+    (λ c κs. search needs)
     returns-3)

@@ -5,18 +5,9 @@ use Rattle.entries.proofs.Tags.{run-between}
 use Rattle.entries.proofs.run_of.Statement.{statement}
 use Rattle.entries.proofs.run_of.Tie as tie
 
-first-from-requires : tie.Need-first-from-requires
-first-from-requires c κs = search needs
-
-add-first-from : tie.Need-add-first-from
-add-first-from c = search needs
-
-first-from-requires-2 : tie.Need-first-from-requires-2
-first-from-requires-2 c κs = search needs
-
 returns : tie.Need-returns
 returns c =
     (refl, refl, run-between _ _ _ _ _ _ (c .before .before .before .pre .1) (c .before .first-from .ensures) (c .first-from2 .ensures))
 
 pub run-of-spec : {M : Type 1} → statement M
-run-of-spec = tie.close (tie.spec first-from-requires add-first-from first-from-requires-2 returns)
+run-of-spec = tie.close (tie.spec (λ c κs. search needs) (λ c. search needs) (λ c κs. search needs) returns)

@@ -12,12 +12,6 @@ use borrow.Author.Needs.{needs}
 use Rattle.filters.proofs.put_entries.Statement.{statement}
 use Rattle.filters.proofs.put_entries.Tie as tie
 
-slice-aggregate-put-before : tie.Need-slice-aggregate-put-before
-slice-aggregate-put-before c = search needs
-
-put-before-requires : tie.Need-put-before-requires
-put-before-requires c κs = search needs
-
 -- what was asked, and where its parts were written
 abbrev start : tie.After-put-before → tie.Start
 start c = c .before .before .before .before .before
@@ -45,9 +39,6 @@ put-head-requires c κs =
     let s = start (c .before .before) in
     (s .pre .1 .styled, omega (arith, fits s))
 
-array-share-prefix-before : tie.Need-array-share-prefix-before
-array-share-prefix-before c = search needs
-
 slice-aggregate-put-rows : tie.Need-slice-aggregate-put-rows
 slice-aggregate-put-rows c =
     let b = ahead (c .before .before .before) in
@@ -58,9 +49,6 @@ sub-put-rows c = omega (arith, fits (start (ahead (c .before .before .before))))
 
 part-put-rows-start : tie.Need-part-put-rows-start
 part-put-rows-start c = omega (arith, fits (start (ahead (c .before .before .before))))
-
-part-put-rows-end : tie.Need-part-put-rows-end
-part-put-rows-end c = search needs
 
 put-rows-requires : tie.Need-put-rows-requires
 put-rows-requires c κs =
@@ -79,29 +67,17 @@ room c =
 add-at : tie.Need-add-at
 add-at c = omega (arith, room (c .before .before))
 
-mul-put-fixed : tie.Need-mul-put-fixed
-mul-put-fixed c = search needs
-
-add-put-fixed : tie.Need-add-put-fixed
-add-put-fixed c = search needs
-
 sub-put-fixed : tie.Need-sub-put-fixed
 sub-put-fixed c = omega (arith, room (c .before .before))
 
 part-put-fixed-start : tie.Need-part-put-fixed-start
 part-put-fixed-start c = omega (arith, room (c .before .before))
 
-part-put-fixed-end : tie.Need-part-put-fixed-end
-part-put-fixed-end c = search needs
-
 put-fixed-requires : tie.Need-put-fixed-requires
 put-fixed-requires c κs = (omega arith, rw rest-length (omega (arith, room (c .before .before .before))))
 
 add-result : tie.Need-add-result
 add-result c = omega (arith, room (rows (c .before .before)))
-
-same-length : tie.Need-same-length
-same-length c = search needs
 
 returns : tie.Need-returns
 returns c =
@@ -113,22 +89,22 @@ pub put-entries-spec : {M : Type 1} → statement M
 put-entries-spec =
     tie.close
     (tie.spec
-    slice-aggregate-put-before
-    put-before-requires
+    (λ c. search needs)
+    (λ c κs. search needs)
     put-head-requires
-    array-share-prefix-before
+    (λ c. search needs)
     slice-aggregate-put-rows
     sub-put-rows
     part-put-rows-start
-    part-put-rows-end
+    (λ c. search needs)
     put-rows-requires
     add-at
-    mul-put-fixed
-    add-put-fixed
+    (λ c. search needs)
+    (λ c. search needs)
     sub-put-fixed
     part-put-fixed-start
-    part-put-fixed-end
+    (λ c. search needs)
     put-fixed-requires
     add-result
-    same-length
+    (λ c. search needs)
     returns)

@@ -42,26 +42,8 @@ returns c = no-room _ _ _ _ (omega arith)
 returns-2 : tie.Need-returns-2
 returns-2 c = long-handle _ _ _ _ (omega arith) (omega arith)
 
-slice-aggregate-prefixes : tie.Need-slice-aggregate-prefixes
-slice-aggregate-prefixes c = search needs
-
-prefixes-requires : tie.Need-prefixes-requires
-prefixes-requires c κs = search needs
-
 returns-3 : tie.Need-returns-3
 returns-3 c = nothing-put _ _ _ _ (omega arith) (omega arith) (no-network (start (c .before .before .before) .args .range .now) buffer (bytes (c .before .before .before)) (length-replicate {A = ℕ} 4318 0) (c .before .before .before .prefixes .ensures .0) (c .before .before .before .prefixes .ensures .1) (c .if3 .taken))
-
-slice-aggregate-put-name : tie.Need-slice-aggregate-put-name
-slice-aggregate-put-name c = search needs
-
-put-name-requires : tie.Need-put-name-requires
-put-name-requires c κs = search needs
-
-cast-count : tie.Need-cast-count
-cast-count c = search needs
-
-style-of-requires : tie.Need-style-of-requires
-style-of-requires c κs = search needs
 
 array-share-prefix-name : tie.Need-array-share-prefix-name
 array-share-prefix-name c =
@@ -75,16 +57,10 @@ slice-aggregate-put-entries c =
     let n = name-length (a .format) (a .handle .now) in
     sym (length-take-le _ _ (omega (arith, c .before .before .before .before .put-name .ensures .size)))
 
-slice-aggregate-put-entries-2 : tie.Need-slice-aggregate-put-entries-2
-slice-aggregate-put-entries-2 c = search needs
-
 -- the filter's text by its entries has room
 put-entries-requires : tie.Need-put-entries-requires
 put-entries-requires c κs =
     entries-fit (known (named (c .before .before .before))) _ _ (c .before .before .before .style-of .ensures) (written-front (named (c .before .before .before) .put-name .ensures)) (omega arith) (omega arith)
-
-same-length : tie.Need-same-length
-same-length c = search needs
 
 abbrev styled : tie.After-put-entries → tie.After-style-of
 styled c = c .before .before .before .before
@@ -99,16 +75,16 @@ put-filter-spec =
     (tie.spec
     returns
     returns-2
-    slice-aggregate-prefixes
-    prefixes-requires
+    (λ c. search needs)
+    (λ c κs. search needs)
     returns-3
-    slice-aggregate-put-name
-    put-name-requires
-    cast-count
-    style-of-requires
+    (λ c. search needs)
+    (λ c κs. search needs)
+    (λ c. search needs)
+    (λ c κs. search needs)
     array-share-prefix-name
     slice-aggregate-put-entries
-    slice-aggregate-put-entries-2
+    (λ c. search needs)
     put-entries-requires
-    same-length
+    (λ c. search needs)
     returns-4)

@@ -30,20 +30,11 @@ room c = omega (arith, fits (c .before .before .before .before), c .put-text .en
 put-text-requires : tie.Need-put-text-requires
 put-text-requires c κs = (c .before .before .before .pre .1, omega (arith, fits (c .before .before .before)))
 
-mul-put-fixed : tie.Need-mul-put-fixed
-mul-put-fixed c = search needs
-
-add-put-fixed : tie.Need-add-put-fixed
-add-put-fixed c = search needs
-
 sub-put-fixed : tie.Need-sub-put-fixed
 sub-put-fixed c = omega (arith, room (c .before .before))
 
 part-put-fixed-start : tie.Need-part-put-fixed-start
 part-put-fixed-start c = omega (arith, room (c .before .before))
-
-part-put-fixed-end : tie.Need-part-put-fixed-end
-part-put-fixed-end c = search needs
 
 put-fixed-requires : tie.Need-put-fixed-requires
 put-fixed-requires c κs = (omega arith, rw rest-length (omega (arith, room (c .before .before .before))))
@@ -57,9 +48,6 @@ sub-put-decimal c = omega (arith, room (text (c .before .before)))
 part-put-decimal-start : tie.Need-part-put-decimal-start
 part-put-decimal-start c = omega (arith, room (text (c .before .before)))
 
-part-put-decimal-end : tie.Need-part-put-decimal-end
-part-put-decimal-end c = search needs
-
 put-decimal-requires : tie.Need-put-decimal-requires
 put-decimal-requires c κs = rw rest-length (omega (arith, room (text (c .before .before .before))))
 
@@ -69,9 +57,6 @@ slash c = c .before .before .before .before
 add-result : tie.Need-add-result
 add-result c = omega (arith, room (text (slash (c .before .before))))
 
-same-length : tie.Need-same-length
-same-length c = search needs
-
 returns : tie.Need-returns
 returns c = written-both (written-both (text (slash (c .before .before)) .put-text .ensures) (slash (c .before .before) .put-fixed .ensures)) (c .before .before .put-decimal .ensures)
 
@@ -80,17 +65,17 @@ put-prefix-spec =
     tie.close
     (tie.spec
     put-text-requires
-    mul-put-fixed
-    add-put-fixed
+    (λ c. search needs)
+    (λ c. search needs)
     sub-put-fixed
     part-put-fixed-start
-    part-put-fixed-end
+    (λ c. search needs)
     put-fixed-requires
     add-at
     sub-put-decimal
     part-put-decimal-start
-    part-put-decimal-end
+    (λ c. search needs)
     put-decimal-requires
     add-result
-    same-length
+    (λ c. search needs)
     returns)

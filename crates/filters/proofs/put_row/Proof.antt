@@ -36,9 +36,6 @@ sub-put-prefix c = omega (arith, fits (start (c .before .before)))
 part-put-prefix-start : tie.Need-part-put-prefix-start
 part-put-prefix-start c = omega (arith, fits (start (c .before .before)))
 
-part-put-prefix-end : tie.Need-part-put-prefix-end
-part-put-prefix-end c = search needs
-
 put-prefix-requires : tie.Need-put-prefix-requires
 put-prefix-requires c κs =
     let s = start (c .before .before .before) in
@@ -58,17 +55,11 @@ sub-put-end c = omega (arith, room (c .before .before))
 part-put-end-start : tie.Need-part-put-end-start
 part-put-end-start c = omega (arith, room (c .before .before))
 
-part-put-end-end : tie.Need-part-put-end-end
-part-put-end-end c = search needs
-
 put-end-requires : tie.Need-put-end-requires
 put-end-requires c κs = (start (bytes (c .before .before .before)) .pre .0, rw rest-length (omega (arith, room (c .before .before .before))))
 
 add-result : tie.Need-add-result
 add-result c = omega (arith, room (network (c .before .before)))
-
-same-length : tie.Need-same-length
-same-length c = search needs
 
 returns : tie.Need-returns
 returns c = written-both (written-both (bytes (network (c .before .before)) .put-bytes .ensures) (network (c .before .before) .put-prefix .ensures)) (c .before .before .put-end .ensures)
@@ -80,13 +71,13 @@ put-row-spec =
     put-bytes-requires
     sub-put-prefix
     part-put-prefix-start
-    part-put-prefix-end
+    (λ c. search needs)
     put-prefix-requires
     add-at
     sub-put-end
     part-put-end-start
-    part-put-end-end
+    (λ c. search needs)
     put-end-requires
     add-result
-    same-length
+    (λ c. search needs)
     returns)

@@ -52,9 +52,6 @@ fits c =
 loop-holds : tie.Need-loop-holds Inv-loop μ-loop
 loop-holds c = (omega (arith, c .before .before .before .pre .counted), at-start _ _)
 
-sub-left : tie.Need-sub-left Inv-loop μ-loop
-sub-left c = search needs
-
 add-end : tie.Need-add-end Inv-loop μ-loop
 add-end c =
     let i = inside c in
@@ -88,9 +85,6 @@ part-put-row-start-2 : tie.Need-part-put-row-start-2 Inv-loop μ-loop
 part-put-row-start-2 c =
     omega (arith, fits (c .before .before))
 
-part-put-row-end-2 : tie.Need-part-put-row-end-2 Inv-loop μ-loop
-part-put-row-end-2 c = search needs
-
 put-row-requires : tie.Need-put-row-requires Inv-loop μ-loop
 put-row-requires c κs =
     let i = inside (c .before .before .before) in
@@ -107,9 +101,6 @@ add-from : tie.Need-add-from Inv-loop μ-loop
 add-from c =
     let i = inside (place (c .before .before)) in
     omega arith
-
-loop-less : tie.Need-loop-less Inv-loop μ-loop
-loop-less c = omega arith
 
 loop-again : tie.Need-loop-again Inv-loop μ-loop
 loop-again c =
@@ -136,7 +127,7 @@ put-rows-spec =
     Inv-loop
     μ-loop
     loop-holds
-    sub-left
+    (λ c. search needs)
     add-end
     sub-put-row
     part-put-row-start
@@ -144,11 +135,11 @@ put-rows-spec =
     shared-slice-read-put-row
     sub-put-row-2
     part-put-row-start-2
-    part-put-row-end-2
+    (λ c. search needs)
     put-row-requires
     add-at
     add-from
-    loop-less
+    (λ c. omega arith)
     loop-again
     same-length
     returns)

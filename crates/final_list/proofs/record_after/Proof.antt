@@ -17,21 +17,6 @@ start o = o .before .before .before .before .before .before .before
 list : (o : tie.After-n) → ChangedTo (now (start o .args .image)) (now (start o .args .changes)) (o .before .before .changed .last .1 .1 .1 .1 .0) (Done (o .n .given .0 .0))
 list o = rw (o .n .given .1) at (o .before .before .changed .ensures .0)
 
-changed-requires : tie.Need-changed-requires
-changed-requires c κs = search needs
-
-enum-told : tie.Need-enum-told
-enum-told c = search needs
-
-no-record-requires : tie.Need-no-record-requires
-no-record-requires c κs = search needs
-
-enum-known-n : tie.Need-enum-known-n
-enum-known-n c = search needs
-
-no-record-requires-2 : tie.Need-no-record-requires-2
-no-record-requires-2 c κs = search needs
-
 returns : tie.Need-returns
 returns c =
     let o = c .before .before .before in
@@ -42,9 +27,6 @@ mul-record-at c = omega (arith, list (c .before .before) .2, c .if1 .left)
 
 array-read-record-at : tie.Need-array-read-record-at
 array-read-record-at c = omega (arith, list (c .before .before) .2, c .before .before .before .before .changed .ensures .1, c .if1 .left)
-
-record-at-requires : tie.Need-record-at-requires
-record-at-requires c κs = search needs
 
 returns-2 : tie.Need-returns-2
 returns-2 c =
@@ -61,14 +43,14 @@ pub record-after-spec : {M : Type 1} → statement M
 record-after-spec =
     tie.close
     (tie.spec
-    changed-requires
-    enum-told
-    no-record-requires
-    enum-known-n
-    no-record-requires-2
+    (λ c κs. search needs)
+    (λ c. search needs)
+    (λ c κs. search needs)
+    (λ c. search needs)
+    (λ c κs. search needs)
     returns
     mul-record-at
     array-read-record-at
-    record-at-requires
+    (λ c κs. search needs)
     returns-2
     returns-3)

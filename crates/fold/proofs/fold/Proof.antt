@@ -5,21 +5,6 @@ use Rattle.fold.proofs.Finals.{fold-defective}
 use Rattle.fold.proofs.fold.Statement.{statement}
 use Rattle.fold.proofs.fold.Tie as tie
 
-index-requires : tie.Need-index-requires
-index-requires c κs = search needs
-
-enum-known-defect : tie.Need-enum-known-defect
-enum-known-defect c = search needs
-
-bad-image-requires : tie.Need-bad-image-requires
-bad-image-requires c κs = search needs
-
-enum-known-count : tie.Need-enum-known-count
-enum-known-count c = search needs
-
-cast-fold-sound : tie.Need-cast-fold-sound
-cast-fold-sound c = search needs
-
 fold-sound-requires : tie.Need-fold-sound-requires
 fold-sound-requires c κs =
     let k = c .before .before .before in
@@ -30,9 +15,6 @@ returns c =
     let x = fold-defective _ _ _ _ (c .before .before .before .before .index .ensures .verdict) _ _ (c .before .before .defect .given .1) _ (c .bad-image .ensures) in
     (x .numbers, x .out)
 
-same-length : tie.Need-same-length
-same-length c = search needs
-
 returns-2 : tie.Need-returns-2
 returns-2 c = (c .before .before .fold-sound .ensures .numbers, c .before .before .fold-sound .ensures .out)
 
@@ -40,12 +22,12 @@ pub fold-spec : {M : Type 1} → statement M
 fold-spec =
     tie.close
     (tie.spec
-    index-requires
-    enum-known-defect
-    bad-image-requires
-    enum-known-count
-    cast-fold-sound
+    (λ c κs. search needs)
+    (λ c. search needs)
+    (λ c κs. search needs)
+    (λ c. search needs)
+    (λ c. search needs)
     fold-sound-requires
     returns
-    same-length
+    (λ c. search needs)
     returns-2)

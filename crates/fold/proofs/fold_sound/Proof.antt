@@ -8,22 +8,10 @@ use Rattle.fold.proofs.Finals.{fold-refused, fold-finished}
 use Rattle.fold.proofs.fold_sound.Statement.{statement}
 use Rattle.fold.proofs.fold_sound.Tie as tie
 
-changed-requires : tie.Need-changed-requires
-changed-requires c κs = search needs
-
-enum-known-offset : tie.Need-enum-known-offset
-enum-known-offset c = search needs
-
 cast-bad-change : tie.Need-cast-bad-change
 cast-bad-change c =
     let z = rw (c .before .offset .given .1) at (c .before .before .before .changed .ensures .0) in
     omega (arith, z .1)
-
-bad-change-requires : tie.Need-bad-change-requires
-bad-change-requires c κs = search needs
-
-enum-known-n : tie.Need-enum-known-n
-enum-known-n c = search needs
 
 finish-requires : tie.Need-finish-requires
 finish-requires c κs =
@@ -39,9 +27,6 @@ returns c =
     let z = rw (o .offset .given .1) at (o .before .before .changed .ensures .0) in
     fold-refused _ _ _ (is-read (o .before .before .before .before .before .before .before .before .pre)) _ (z .0) _ (c .bad-change .ensures)
 
-same-length : tie.Need-same-length
-same-length c = search needs
-
 returns-2 : tie.Need-returns-2
 returns-2 c =
     let f = c .before .before in
@@ -53,12 +38,12 @@ pub fold-sound-spec : {M : Type 1} → statement M
 fold-sound-spec =
     tie.close
     (tie.spec
-    changed-requires
-    enum-known-offset
+    (λ c κs. search needs)
+    (λ c. search needs)
     cast-bad-change
-    bad-change-requires
-    enum-known-n
+    (λ c κs. search needs)
+    (λ c. search needs)
     finish-requires
     returns
-    same-length
+    (λ c. search needs)
     returns-2)

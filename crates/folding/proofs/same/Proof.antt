@@ -25,29 +25,11 @@ returns-2 c =
     let a = c .before .before .before .before .args in
     sym (alike-end (a .fold) (now (a .a)) (now (a .b)) 0 (omega arith) (omega arith))
 
-sub-same-byte : tie.Need-sub-same-byte Inv-loop μ-loop
-sub-same-byte c = search needs
-
-shared-slice-read-same-byte : tie.Need-shared-slice-read-same-byte Inv-loop μ-loop
-shared-slice-read-same-byte c = search needs
-
-sub-same-byte-2 : tie.Need-sub-same-byte-2 Inv-loop μ-loop
-sub-same-byte-2 c = search needs
-
-shared-slice-read-same-byte-2 : tie.Need-shared-slice-read-same-byte-2 Inv-loop μ-loop
-shared-slice-read-same-byte-2 c = search needs
-
-same-byte-requires : tie.Need-same-byte-requires Inv-loop μ-loop
-same-byte-requires c κs = search needs
-
 returns-3 : tie.Need-returns-3 Inv-loop μ-loop
 returns-3 c =
     let a = c .before .before .before .before .before .before .before .before .args in
     let n = length (now (a .a)) in
     alike-not (a .fold) (now (a .a)) (now (a .b)) (n - 1) (omega arith) (omega arith) (sym (c .before .same-byte .ensures) ∙ not-true _ (c .if3 .taken))
-
-same-eights-requires : tie.Need-same-eights-requires Inv-loop μ-loop
-same-eights-requires c κs = search needs
 
 loop-holds : tie.Need-loop-holds Inv-loop μ-loop
 loop-holds c =
@@ -55,25 +37,10 @@ loop-holds c =
     let e = c .same-eights .ensures in
     (e .0, refl, omega arith, alike-after (a .fold) (now (a .a)) (now (a .b)) (c .same-eights .result) (e .0) (omega arith) (e .1))
 
-shared-slice-read-same-byte-3 : tie.Need-shared-slice-read-same-byte-3 Inv-loop μ-loop
-shared-slice-read-same-byte-3 c = search needs
-
-shared-slice-read-same-byte-4 : tie.Need-shared-slice-read-same-byte-4 Inv-loop μ-loop
-shared-slice-read-same-byte-4 c = search needs
-
-same-byte-requires-2 : tie.Need-same-byte-requires-2 Inv-loop μ-loop
-same-byte-requires-2 c κs = search needs
-
 returns-4 : tie.Need-returns-4 Inv-loop μ-loop
 returns-4 c =
     let a = c .before .before .before .before .before .before .before .before .before .before .before .before .before .before .before .args in
     alike-not (a .fold) (now (a .a)) (now (a .b)) (c .before .before .before .before .before .loop .i) (omega arith) (omega arith) (sym (c .before .same-byte2 .ensures) ∙ not-true _ (c .if4 .taken))
-
-add-i : tie.Need-add-i Inv-loop μ-loop
-add-i c = search needs
-
-loop-less : tie.Need-loop-less Inv-loop μ-loop
-loop-less c = search needs
 
 loop-again : tie.Need-loop-again Inv-loop μ-loop
 loop-again c =
@@ -93,19 +60,19 @@ same-spec =
     μ-loop
     returns
     returns-2
-    sub-same-byte
-    shared-slice-read-same-byte
-    sub-same-byte-2
-    shared-slice-read-same-byte-2
-    same-byte-requires
+    (λ c. search needs)
+    (λ c. search needs)
+    (λ c. search needs)
+    (λ c. search needs)
+    (λ c κs. search needs)
     returns-3
-    same-eights-requires
+    (λ c κs. search needs)
     loop-holds
-    shared-slice-read-same-byte-3
-    shared-slice-read-same-byte-4
-    same-byte-requires-2
+    (λ c. search needs)
+    (λ c. search needs)
+    (λ c κs. search needs)
     returns-4
-    add-i
-    loop-less
+    (λ c. search needs)
+    (λ c. search needs)
     loop-again
     returns-5)

@@ -9,12 +9,6 @@ use Rattle.folding.proofs.same_byte.Tie as tie
 returns : tie.Need-returns
 returns c = sym (eq-eqb _ _ (ap (foldIf (c .before .args .fold)) (c .if1 .taken)))
 
-folded-requires : tie.Need-folded-requires
-folded-requires c κs = search needs
-
-folded-requires-2 : tie.Need-folded-requires-2
-folded-requires-2 c κs = search needs
-
 returns-2 : tie.Need-returns-2
 unfolding foldIf
 returns-2 c = rw (c .before .before .if2 .taken, c .before .folded .ensures, c .folded2 .ensures)
@@ -24,4 +18,4 @@ unfolding foldIf
 returns-3 c = rw (c .if2 .left) (sym (ne-eqb (c .before .before .args .c) (c .before .before .args .d) (c .before .if1 .left)))
 
 pub same-byte-spec : {M : Type 1} → statement M
-same-byte-spec = tie.close (tie.spec returns folded-requires folded-requires-2 returns-2 returns-3)
+same-byte-spec = tie.close (tie.spec returns (λ c κs. search needs) (λ c κs. search needs) returns-2 returns-3)

@@ -13,15 +13,6 @@ use Rattle.folding.proofs.without_final_dot.Tie as tie
 returns : tie.Need-returns
 returns c = sym (no-final-dot (now (c .before .args .s)) (c .if1 .taken))
 
-sub-if2 : tie.Need-sub-if2
-sub-if2 c = search needs
-
-shared-slice-read-if2 : tie.Need-shared-slice-read-if2
-shared-slice-read-if2 c = search needs
-
-sub-result : tie.Need-sub-result
-sub-result c = search needs
-
 slice-aggregate-result : tie.Need-slice-aggregate-result
 slice-aggregate-result c = sym (length-take-le _ _ (omega arith))
 
@@ -38,9 +29,9 @@ without-final-dot-spec =
     tie.close
     (tie.spec
     returns
-    sub-if2
-    shared-slice-read-if2
-    sub-result
+    (λ c. search needs)
+    (λ c. search needs)
+    (λ c. search needs)
     slice-aggregate-result
     returns-2
     returns-3)

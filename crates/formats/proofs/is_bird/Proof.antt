@@ -7,18 +7,9 @@ use borrow.Author.Needs.{needs}
 use Rattle.formats.proofs.is_bird.Statement.{statement}
 use Rattle.formats.proofs.is_bird.Tie as tie
 
-between-requires : tie.Need-between-requires
-between-requires c κs = search needs
-
 returns : tie.Need-returns
 unfolding isAllowed
 returns c = rw (eq-eqb _ 0 (c .before .before .if1 .taken), ← (c .before .between .ensures), c .if2 .taken)
-
-slice-aggregate-is-word : tie.Need-slice-aggregate-is-word
-slice-aggregate-is-word c = search needs
-
-is-word-requires : tie.Need-is-word-requires
-is-word-requires c κs = search needs
 
 returns-2 : tie.Need-returns-2
 unfolding isAllowed ascii
@@ -29,4 +20,4 @@ returns-2 c =
 pub is-bird-spec : {M : Type 1} → statement M
 is-bird-spec =
     tie.close
-    (tie.spec between-requires returns slice-aggregate-is-word is-word-requires returns-2)
+    (tie.spec (λ c κs. search needs) returns (λ c. search needs) (λ c κs. search needs) returns-2)

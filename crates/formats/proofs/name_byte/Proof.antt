@@ -4,9 +4,6 @@ use borrow.Author.Needs.{needs}
 use Rattle.formats.proofs.name_byte.Statement.{statement}
 use Rattle.formats.proofs.name_byte.Tie as tie
 
-is-allowed-requires : tie.Need-is-allowed-requires
-is-allowed-requires c κs = search needs
-
 returns : tie.Need-returns
 returns c = rw (← (c .before .is-allowed .ensures), c .if1 .taken) refl
 
@@ -14,4 +11,4 @@ returns-2 : tie.Need-returns-2
 returns-2 c = rw (← (c .before .is-allowed .ensures), c .if1 .left) refl
 
 pub name-byte-spec : {M : Type 1} → statement M
-name-byte-spec = tie.close (tie.spec is-allowed-requires returns returns-2)
+name-byte-spec = tie.close (tie.spec (λ c κs. search needs) returns returns-2)

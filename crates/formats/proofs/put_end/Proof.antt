@@ -6,35 +6,17 @@ use borrow.Author.Needs.{needs}
 use Rattle.formats.proofs.put_end.Statement.{statement}
 use Rattle.formats.proofs.put_end.Tie as tie
 
-mul-put-fixed : tie.Need-mul-put-fixed
-mul-put-fixed c = search needs
-
-add-put-fixed : tie.Need-add-put-fixed
-add-put-fixed c = search needs
-
 put-fixed-requires : tie.Need-put-fixed-requires
 unfolding endOf
 put-fixed-requires c κs = (omega arith, rw (eq-eqb (c .before .before .before .args .left) 0 (omega arith)) at (c .before .before .before .pre .1))
-
-same-length : tie.Need-same-length
-same-length c = search needs
 
 returns : tie.Need-returns
 unfolding endOf
 returns c = rw (eq-eqb (c .before .before .before .before .before .before .args .left) 0 (omega arith)) (c .before .before .put-fixed .ensures)
 
-mul-put-fixed-2 : tie.Need-mul-put-fixed-2
-mul-put-fixed-2 c = search needs
-
-add-put-fixed-2 : tie.Need-add-put-fixed-2
-add-put-fixed-2 c = search needs
-
 put-fixed-requires-2 : tie.Need-put-fixed-requires-2
 unfolding endOf
 put-fixed-requires-2 c κs = (omega arith, rw (ne-eqb (c .before .before .before .args .left) 0 (λ e. omega arith)) at (c .before .before .before .pre .1))
-
-same-length-2 : tie.Need-same-length-2
-same-length-2 c = search needs
 
 returns-2 : tie.Need-returns-2
 unfolding endOf
@@ -44,13 +26,13 @@ pub put-end-spec : {M : Type 1} → statement M
 put-end-spec =
     tie.close
     (tie.spec
-    mul-put-fixed
-    add-put-fixed
+    (λ c. search needs)
+    (λ c. search needs)
     put-fixed-requires
-    same-length
+    (λ c. search needs)
     returns
-    mul-put-fixed-2
-    add-put-fixed-2
+    (λ c. search needs)
+    (λ c. search needs)
     put-fixed-requires-2
-    same-length-2
+    (λ c. search needs)
     returns-2)

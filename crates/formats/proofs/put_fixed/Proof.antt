@@ -6,29 +6,11 @@ use borrow.Author.Needs.{needs}
 use Rattle.formats.proofs.put_fixed.Statement.{statement}
 use Rattle.formats.proofs.put_fixed.Tie as tie
 
-start-of-requires : tie.Need-start-of-requires
-start-of-requires c κs = search needs
-
-add-start-of : tie.Need-add-start-of
-add-start-of c = search needs
-
-start-of-requires-2 : tie.Need-start-of-requires-2
-start-of-requires-2 c κs = search needs
-
-all-texts-requires : tie.Need-all-texts-requires
-all-texts-requires c κs = search needs
-
-slice-aggregate-put-part : tie.Need-slice-aggregate-put-part
-slice-aggregate-put-part c = search needs
-
 put-part-requires : tie.Need-put-part-requires
 put-part-requires c κs =
     let k = c .before .before .before .before .before .before .args .k in
     let h = c .before .before .before .before .before .before .pre .0 in
     rw (c .before .before .before .before .start-of .ensures, c .before .before .before .start-of2 .ensures, c .before .before .all-texts .ensures) (in-order k h, omega (arith, in-texts k h, texts-length), omega (arith, text-length k h, c .before .before .before .before .before .before .pre .1))
-
-same-length : tie.Need-same-length
-same-length c = search needs
 
 returns : tie.Need-returns
 unfolding textAt
@@ -38,11 +20,11 @@ pub put-fixed-spec : {M : Type 1} → statement M
 put-fixed-spec =
     tie.close
     (tie.spec
-    start-of-requires
-    add-start-of
-    start-of-requires-2
-    all-texts-requires
-    slice-aggregate-put-part
+    (λ c κs. search needs)
+    (λ c. search needs)
+    (λ c κs. search needs)
+    (λ c κs. search needs)
+    (λ c. search needs)
     put-part-requires
-    same-length
+    (λ c. search needs)
     returns)

@@ -9,17 +9,11 @@ use Rattle.formats.proofs.put_head.Tie as tie
 returns : tie.Need-returns
 returns c = rw (eq-eqb _ 0 (c .if1 .taken)) (written-nothing _)
 
-mul-put-named : tie.Need-mul-put-named
-mul-put-named c = search needs
-
 put-named-requires : tie.Need-put-named-requires
 put-named-requires c κs = (omega arith, rw (ne-eqb _ 0 (c .before .if1 .left)) at (c .before .before .before .before .pre .1))
-
-same-length : tie.Need-same-length
-same-length c = search needs
 
 returns-2 : tie.Need-returns-2
 returns-2 c = rw (ne-eqb _ 0 (c .before .before .before .before .if1 .left)) (c .before .before .put-named .ensures)
 
 pub put-head-spec : {M : Type 1} → statement M
-put-head-spec = tie.close (tie.spec returns mul-put-named put-named-requires same-length returns-2)
+put-head-spec = tie.close (tie.spec returns (λ c. search needs) put-named-requires (λ c. search needs) returns-2)

@@ -7,24 +7,9 @@ use borrow.Author.Needs.{needs}
 use Rattle.formats.proofs.style_of.Statement.{statement}
 use Rattle.formats.proofs.style_of.Tie as tie
 
-enum-told : tie.Need-enum-told
-enum-told c = search needs
-
-enum-told-2 : tie.Need-enum-told-2
-enum-told-2 c = search needs
-
 returns : tie.Need-returns
 unfolding styleOf
 returns c = rw (c .before .enum-told2 .given .1, eq-eqb (c .before .before .before .args .width) 4 (omega arith)) (refl, omega arith)
-
-enum-told-3 : tie.Need-enum-told-3
-enum-told-3 c = search needs
-
-enum-told-4 : tie.Need-enum-told-4
-enum-told-4 c = search needs
-
-enum-told-5 : tie.Need-enum-told-5
-enum-told-5 c = search needs
 
 returns-2 : tie.Need-returns-2
 unfolding styleOf
@@ -50,12 +35,12 @@ pub style-of-spec : {M : Type 1} → statement M
 style-of-spec =
     tie.close
     (tie.spec
-    enum-told
-    enum-told-2
+    (λ c. search needs)
+    (λ c. search needs)
     returns
-    enum-told-3
-    enum-told-4
-    enum-told-5
+    (λ c. search needs)
+    (λ c. search needs)
+    (λ c. search needs)
     returns-2
     returns-3
     returns-4

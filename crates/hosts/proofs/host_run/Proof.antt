@@ -19,27 +19,6 @@ loop-holds : tie.Need-loop-holds Inv-loop μ-loop
 unfolding run
 loop-holds c = (omega arith, refl)
 
-add-j : tie.Need-add-j Inv-loop μ-loop
-add-j c = search needs
-
-shared-slice-read-may-follow : tie.Need-shared-slice-read-may-follow Inv-loop μ-loop
-shared-slice-read-may-follow c = search needs
-
-add-may-follow : tie.Need-add-may-follow Inv-loop μ-loop
-add-may-follow c = search needs
-
-shared-slice-read-may-follow-2 : tie.Need-shared-slice-read-may-follow-2 Inv-loop μ-loop
-shared-slice-read-may-follow-2 c = search needs
-
-may-follow-requires : tie.Need-may-follow-requires Inv-loop μ-loop
-may-follow-requires c κs = search needs
-
-add-i : tie.Need-add-i Inv-loop μ-loop
-add-i c = search needs
-
-loop-less : tie.Need-loop-less Inv-loop μ-loop
-loop-less c = search needs
-
 loop-again : tie.Need-loop-again Inv-loop μ-loop
 loop-again c = (omega arith, hosts.host-step _ _ _ _ _ _ (c .before .before .before .before .before .before .pre .0) (c .before .before .before .before .loop .inv .1) (c .may-follow .ensures))
 
@@ -55,12 +34,12 @@ host-run-spec =
     Inv-loop
     μ-loop
     loop-holds
-    add-j
-    shared-slice-read-may-follow
-    add-may-follow
-    shared-slice-read-may-follow-2
-    may-follow-requires
-    add-i
-    loop-less
+    (λ c. search needs)
+    (λ c. search needs)
+    (λ c. search needs)
+    (λ c. search needs)
+    (λ c κs. search needs)
+    (λ c. search needs)
+    (λ c. search needs)
     loop-again
     returns)

@@ -24,15 +24,6 @@ abbrev μ-loop : tie.MeasureT-loop
 returns : tie.Need-returns Inv-loop μ-loop
 returns c = labels.host-long _ (c .if1 .taken)
 
-loop-holds : tie.Need-loop-holds Inv-loop μ-loop
-loop-holds c = search needs
-
-shared-slice-read-b : tie.Need-shared-slice-read-b Inv-loop μ-loop
-shared-slice-read-b c = search needs
-
-label-ok-requires : tie.Need-label-ok-requires Inv-loop μ-loop
-label-ok-requires c κs = search needs
-
 -- what the rest of the text says is the answer
 answer : (c : tie.At-loop Inv-loop μ-loop) → labelsFrom (c .loop .label) (c .loop .hyphen) (drop (c .loop .i) (now (c .before .before .before .args .s))) ≡ goodHost (now (c .before .before .before .args .s))
 answer c = c .loop .inv .2 ∙ labels.host-labels _ (c .before .if1 .left)
@@ -47,25 +38,10 @@ returns-3 c =
     let b = c .before .before .before .before .before in
     sym (labels.hyphen-first (c .before .before .before .before .before .loop .label) (c .before .before .before .before .before .loop .hyphen) _ (c .before .before .before .before .before .loop .i) (c .before .before .before .before .loop-test .taken) (c .before .before .if2 .left) (c .before .if4 .taken) (c .if5 .taken)) ∙ answer b
 
-add-label : tie.Need-add-label Inv-loop μ-loop
-add-label c = search needs
-
-letter-or-digit-requires : tie.Need-letter-or-digit-requires Inv-loop μ-loop
-letter-or-digit-requires c κs = search needs
-
 returns-4 : tie.Need-returns-4 Inv-loop μ-loop
 returns-4 c =
     let b = c .before .before .before .before .before .before in
     sym (labels.other-bad (c .before .before .before .before .before .before .loop .label) (c .before .before .before .before .before .before .loop .hyphen) _ (c .before .before .before .before .before .before .loop .i) (c .before .before .before .before .before .loop-test .taken) (c .before .before .before .if2 .left) (c .before .before .if4 .left) (sym (c .before .letter-or-digit .ensures) ∙ not-true _ (c .if6 .taken))) ∙ answer b
-
-add-label-2 : tie.Need-add-label-2 Inv-loop μ-loop
-add-label-2 c = search needs
-
-add-i : tie.Need-add-i Inv-loop μ-loop
-add-i c = search needs
-
-loop-less : tie.Need-loop-less Inv-loop μ-loop
-loop-less c = search needs
 
 loop-again : tie.Need-loop-again Inv-loop μ-loop
 loop-again c =
@@ -92,9 +68,6 @@ loop-again c =
     )))
     (c .if2 .came)
 
-label-ok-requires-2 : tie.Need-label-ok-requires-2 Inv-loop μ-loop
-label-ok-requires-2 c κs = search needs
-
 returns-5 : tie.Need-returns-5 Inv-loop μ-loop
 returns-5 c = c .label-ok2 .ensures ∙ sym (labels.labels-end (c .before .before .loop .label) (c .before .before .loop .hyphen) _ (c .before .before .loop .i) (c .before .loop-test .left)) ∙ answer (c .before .before)
 
@@ -105,17 +78,17 @@ long-host-ok-spec =
     Inv-loop
     μ-loop
     returns
-    loop-holds
-    shared-slice-read-b
-    label-ok-requires
+    (λ c. search needs)
+    (λ c. search needs)
+    (λ c κs. search needs)
     returns-2
     returns-3
-    add-label
-    letter-or-digit-requires
+    (λ c. search needs)
+    (λ c κs. search needs)
     returns-4
-    add-label-2
-    add-i
-    loop-less
+    (λ c. search needs)
+    (λ c. search needs)
+    (λ c. search needs)
     loop-again
-    label-ok-requires-2
+    (λ c κs. search needs)
     returns-5)

@@ -6,23 +6,8 @@ use Rattle.hosts.proofs.Hosts as hosts
 use Rattle.hosts.proofs.short_host_ok.Statement.{statement}
 use Rattle.hosts.proofs.short_host_ok.Tie as tie
 
-host-pairs-requires : tie.Need-host-pairs-requires
-host-pairs-requires c κs = search needs
-
 returns : tie.Need-returns
 returns c = hosts.host-unpaired _ (search needs) (search needs) (sym (c .before .host-pairs .ensures) ∙ not-true _ (c .if1 .taken))
-
-shared-slice-read-letter-or-digit : tie.Need-shared-slice-read-letter-or-digit
-shared-slice-read-letter-or-digit c = search needs
-
-letter-or-digit-requires : tie.Need-letter-or-digit-requires
-letter-or-digit-requires c κs = search needs
-
-sub-result : tie.Need-sub-result
-sub-result c = search needs
-
-shared-slice-read-result : tie.Need-shared-slice-read-result
-shared-slice-read-result c = search needs
 
 returns-2 : tie.Need-returns-2
 returns-2 c =
@@ -33,10 +18,10 @@ pub short-host-ok-spec : {M : Type 1} → statement M
 short-host-ok-spec =
     tie.close
     (tie.spec
-    host-pairs-requires
+    (λ c κs. search needs)
     returns
-    shared-slice-read-letter-or-digit
-    letter-or-digit-requires
-    sub-result
-    shared-slice-read-result
+    (λ c. search needs)
+    (λ c κs. search needs)
+    (λ c. search needs)
+    (λ c. search needs)
     returns-2)

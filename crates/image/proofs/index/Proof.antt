@@ -10,9 +10,6 @@ use Rattle.image.proofs.index.Tie as tie
 returns : tie.Need-returns
 returns c = index-long _ _ (c .if1 .taken)
 
-starts-right-requires : tie.Need-starts-right-requires
-starts-right-requires c κs = search needs
-
 returns-2 : tie.Need-returns-2
 returns-2 c = index-wrong _ _ (c .before .before .if1 .left) (sym (c .before .starts-right .ensures) ∙ not-true _ (c .if2 .taken))
 
@@ -25,4 +22,4 @@ returns-3 c =
     index-walked _ _ (c .before .before .before .before .if1 .left) (sym (c .before .before .before .starts-right .ensures) ∙ not-false _ (c .before .before .if2 .left)) _ (c .index-from .ensures)
 
 pub index-spec : {M : Type 1} → statement M
-index-spec = tie.close (tie.spec returns starts-right-requires returns-2 index-from-requires returns-3)
+index-spec = tie.close (tie.spec returns (λ c κs. search needs) returns-2 index-from-requires returns-3)

@@ -21,9 +21,6 @@ Inv-loop image from starts₀ p₀ stack₀ depth₀ count₀ starts p stack dep
 abbrev μ-loop : tie.MeasureT-loop
 μ-loop image from starts₀ p₀ stack₀ depth₀ count₀ starts p stack depth count = length image - p .end
 
-no-record-requires : tie.Need-no-record-requires Inv-loop μ-loop
-no-record-requires c κs = search needs
-
 loop-holds : tie.Need-loop-holds Inv-loop μ-loop
 loop-holds c =
     let a = c .before .before in
@@ -54,12 +51,6 @@ returns c =
     let l = c .before .before .before .loop in
     note-defective _ _ _ _ _ _ _ (l .inv .1) (walk-full _ _ _ _ _ _ (l .inv .0) (c .before .if1 .taken) (c .if2 .taken))
 
-record-at-requires : tie.Need-record-at-requires Inv-loop μ-loop
-record-at-requires c κs = search needs
-
-enum-known-r : tie.Need-enum-known-r Inv-loop μ-loop
-enum-known-r c = search needs
-
 -- a record was read
 abbrev ReachedAt : tie.At-loop Inv-loop μ-loop → Layout → Type 0
 ReachedAt l q =
@@ -68,28 +59,13 @@ ReachedAt l q =
 reached : (c : tie.After-known-told Inv-loop μ-loop) → ReachedAt (top (test c)) (c .before .r .given .0 .0)
 reached c = walk-taken _ _ _ _ _ _ (top (test c) .loop .inv .0) (test c .before .if1 .taken) (test c .if2 .left) _ (c .before .before .before .record-at .ensures) _ (c .before .r .given .1)
 
-slice-aggregate-step : tie.Need-slice-aggregate-step Inv-loop μ-loop
-slice-aggregate-step c = search needs
-
 step-requires : tie.Need-step-requires Inv-loop μ-loop
 step-requires c κs = coming (reached (c .before))
-
-enum-known-d : tie.Need-enum-known-d Inv-loop μ-loop
-enum-known-d c = search needs
 
 cast-starts : tie.Need-cast-starts Inv-loop μ-loop
 cast-starts c =
     let e = test (taken (stepped (c .before))) in
     omega (arith, e .before .if1 .taken, top e .loop .inv .0 .short-enough)
-
-cast-starts-2 : tie.Need-cast-starts-2 Inv-loop μ-loop
-cast-starts-2 c = search needs
-
-mul-starts : tie.Need-mul-starts Inv-loop μ-loop
-mul-starts c = search needs
-
-element-write-starts : tie.Need-element-write-starts Inv-loop μ-loop
-element-write-starts c = search needs
 
 -- the record starts in the image, and the place for it is in the stack
 begins : (c : tie.After-known-told Inv-loop μ-loop) → c .before .r .given .0 .0 .start ≤ 262144
@@ -113,9 +89,6 @@ array-write-stack c = omega (arith, fits (placed c))
 add-depth : tie.Need-add-depth Inv-loop μ-loop
 add-depth c = omega (arith, fits (placed c))
 
-add-count : tie.Need-add-count Inv-loop μ-loop
-add-count c = search needs
-
 loop-less : tie.Need-loop-less Inv-loop μ-loop
 loop-less c =
     let i = field-here (reached (taken (stepped (placed c)))) in
@@ -130,16 +103,10 @@ loop-again c =
       note-next _ _ _ _ _ _ (l .inv .1) (omega (arith, l .inv .0 .few, test q .if2 .left)) (behind-here (reached q)),
     )
 
-enum-known-defect : tie.Need-enum-known-defect Inv-loop μ-loop
-enum-known-defect c = search needs
-
 returns-2 : tie.Need-returns-2 Inv-loop μ-loop
 returns-2 c =
     let s = c .before .before .before in
     note-defective _ _ _ _ _ _ _ (top (test (taken s)) .loop .inv .1) (walk-bad (reached (taken s)) _ (s .step .ensures) _ (c .before .defect .given .1))
-
-enum-known-defect-2 : tie.Need-enum-known-defect-2 Inv-loop μ-loop
-enum-known-defect-2 c = search needs
 
 returns-3 : tie.Need-returns-3 Inv-loop μ-loop
 returns-3 c =
@@ -159,28 +126,28 @@ index-from-spec =
     (tie.spec
     Inv-loop
     μ-loop
-    no-record-requires
+    (λ c κs. search needs)
     loop-holds
     returns
-    record-at-requires
-    enum-known-r
-    slice-aggregate-step
+    (λ c κs. search needs)
+    (λ c. search needs)
+    (λ c. search needs)
     step-requires
-    enum-known-d
+    (λ c. search needs)
     cast-starts
-    cast-starts-2
-    mul-starts
-    element-write-starts
+    (λ c. search needs)
+    (λ c. search needs)
+    (λ c. search needs)
     add-stack
     cast-stack
     mul-stack
     array-write-stack
     add-depth
-    add-count
+    (λ c. search needs)
     loop-less
     loop-again
-    enum-known-defect
+    (λ c. search needs)
     returns-2
-    enum-known-defect-2
+    (λ c. search needs)
     returns-3
     returns-4)

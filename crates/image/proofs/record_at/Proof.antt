@@ -5,15 +5,6 @@ use borrow.Author.Needs.{needs}
 use Rattle.image.proofs.record_at.Statement.{statement}
 use Rattle.image.proofs.record_at.Tie as tie
 
-read-requires : tie.Need-read-requires
-read-requires c κs = search needs
-
-enum-known-tag : tie.Need-enum-known-tag
-enum-known-tag c = search needs
-
-enum-told : tie.Need-enum-told
-enum-told c = search needs
-
 returns : tie.Need-returns
 returns c =
     let a = c .before .before .before .before in
@@ -31,12 +22,6 @@ judge-requires c κs =
     let a = start (field c) in
     let i = read-inside (now (a .args .image)) (a .args .at) (a .pre) _ (field c .read .ensures) _ _ _ (c .before .tag .given .1) in
     (i .forward, i .within)
-
-enum-known-middle : tie.Need-enum-known-middle
-enum-known-middle c = search needs
-
-enum-known-defect : tie.Need-enum-known-defect
-enum-known-defect c = search needs
 
 returns-2 : tie.Need-returns-2
 returns-2 c =
@@ -56,12 +41,12 @@ pub record-at-spec : {M : Type 1} → statement M
 record-at-spec =
     tie.close
     (tie.spec
-    read-requires
-    enum-known-tag
-    enum-told
+    (λ c κs. search needs)
+    (λ c. search needs)
+    (λ c. search needs)
     returns
     judge-requires
-    enum-known-middle
-    enum-known-defect
+    (λ c. search needs)
+    (λ c. search needs)
     returns-2
     returns-3)

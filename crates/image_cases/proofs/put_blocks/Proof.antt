@@ -10,29 +10,11 @@ Inv-loop out₀ count nested at₀ n₀ out at n = Unit {0}
 abbrev μ-loop : tie.MeasureT-loop
 μ-loop out₀ count nested at₀ n₀ out at n = count - n
 
-put-start-requires : tie.Need-put-start-requires Inv-loop μ-loop
-put-start-requires c κs = search needs
-
 loop-holds : tie.Need-loop-holds Inv-loop μ-loop
 loop-holds c = tt
 
-last-of-requires : tie.Need-last-of-requires Inv-loop μ-loop
-last-of-requires c κs = search needs
-
-put-block-requires : tie.Need-put-block-requires Inv-loop μ-loop
-put-block-requires c κs = search needs
-
-add-n : tie.Need-add-n Inv-loop μ-loop
-add-n c = search needs
-
-loop-less : tie.Need-loop-less Inv-loop μ-loop
-loop-less c = search needs
-
 loop-again : tie.Need-loop-again Inv-loop μ-loop
 loop-again c = tt
-
-returns : tie.Need-returns Inv-loop μ-loop
-returns c = search needs
 
 pub put-blocks-spec : {M : Type 1} → statement M
 put-blocks-spec =
@@ -40,11 +22,11 @@ put-blocks-spec =
     (tie.spec
     Inv-loop
     μ-loop
-    put-start-requires
+    (λ c κs. search needs)
     loop-holds
-    last-of-requires
-    put-block-requires
-    add-n
-    loop-less
+    (λ c κs. search needs)
+    (λ c κs. search needs)
+    (λ c. search needs)
+    (λ c. search needs)
     loop-again
-    returns)
+    (λ c. search needs))

@@ -10,26 +10,11 @@ Inv-loop out₀ count at₀ n₀ out at n = Unit {0}
 abbrev μ-loop : tie.MeasureT-loop
 μ-loop out₀ count at₀ n₀ out at n = count - n
 
-put-start-requires : tie.Need-put-start-requires Inv-loop μ-loop
-put-start-requires c κs = search needs
-
 loop-holds : tie.Need-loop-holds Inv-loop μ-loop
 loop-holds c = tt
 
-put-entity-requires : tie.Need-put-entity-requires Inv-loop μ-loop
-put-entity-requires c κs = search needs
-
-add-n : tie.Need-add-n Inv-loop μ-loop
-add-n c = search needs
-
-loop-less : tie.Need-loop-less Inv-loop μ-loop
-loop-less c = search needs
-
 loop-again : tie.Need-loop-again Inv-loop μ-loop
 loop-again c = tt
-
-returns : tie.Need-returns Inv-loop μ-loop
-returns c = search needs
 
 pub put-entities-spec : {M : Type 1} → statement M
 put-entities-spec =
@@ -37,10 +22,10 @@ put-entities-spec =
     (tie.spec
     Inv-loop
     μ-loop
-    put-start-requires
+    (λ c κs. search needs)
     loop-holds
-    put-entity-requires
-    add-n
-    loop-less
+    (λ c κs. search needs)
+    (λ c. search needs)
+    (λ c. search needs)
     loop-again
-    returns)
+    (λ c. search needs))

@@ -8,12 +8,6 @@ use Rattle.ip.proofs.Answers.{answer-four, answer-six, answer-none}
 use Rattle.ip.proofs.read_address.Statement.{statement}
 use Rattle.ip.proofs.read_address.Tie as tie
 
-read-ipv4-requires : tie.Need-read-ipv4-requires
-read-ipv4-requires c κs = search needs
-
-put-ipv4-requires : tie.Need-put-ipv4-requires
-put-ipv4-requires c κs = search needs
-
 returns : tie.Need-returns
 returns c =
     let s = now (c .before .before .before .before .before .args .s) in
@@ -21,12 +15,6 @@ returns c =
     let l : length (four .result .bytes) ≡ 4 = search needs in
     let k : length (c .put-ipv4 .result) ≡ 16 = search needs in
     answer-four s _ _ (four .ensures) _ (c .before .before .if1 .taken) l k (c .put-ipv4 .ensures)
-
-without-zone-requires : tie.Need-without-zone-requires
-without-zone-requires c κs = search needs
-
-read-ipv6-requires : tie.Need-read-ipv6-requires
-read-ipv6-requires c κs = search needs
 
 returns-2 : tie.Need-returns-2
 returns-2 c =
@@ -46,10 +34,10 @@ pub read-address-spec : {M : Type 1} → statement M
 read-address-spec =
     tie.close
     (tie.spec
-    read-ipv4-requires
-    put-ipv4-requires
+    (λ c κs. search needs)
+    (λ c κs. search needs)
     returns
-    without-zone-requires
-    read-ipv6-requires
+    (λ c κs. search needs)
+    (λ c κs. search needs)
     returns-2
     returns-3)

@@ -18,26 +18,8 @@ Inv-loop bytes groups₀ i₀ groups i = (i ≤ 8) × (length groups ≡ 8) × (
 abbrev μ-loop : tie.MeasureT-loop
 μ-loop bytes groups₀ i₀ groups i = 8 - i
 
-loop-holds : tie.Need-loop-holds Inv-loop μ-loop
-loop-holds c = search needs
-
-mul-high : tie.Need-mul-high Inv-loop μ-loop
-mul-high c = search needs
-
-shared-slice-read-high : tie.Need-shared-slice-read-high Inv-loop μ-loop
-shared-slice-read-high c = search needs
-
 cast-high : tie.Need-cast-high Inv-loop μ-loop
 cast-high c = omega (arith, c .shared-slice-known .given (2 * c .before .before .loop .i))
-
-mul-low : tie.Need-mul-low Inv-loop μ-loop
-mul-low c = search needs
-
-add-low : tie.Need-add-low Inv-loop μ-loop
-add-low c = search needs
-
-shared-slice-read-low : tie.Need-shared-slice-read-low Inv-loop μ-loop
-shared-slice-read-low c = search needs
 
 cast-low : tie.Need-cast-low Inv-loop μ-loop
 cast-low c = omega (arith, c .shared-slice-known2 .given (2 * c .before .before .before .loop .i + 1))
@@ -51,18 +33,6 @@ add-groups : tie.Need-add-groups Inv-loop μ-loop
 add-groups c =
     let i = c .before .before .before .loop .i in
     omega (arith, c .shared-slice-known2 .given (2 * i), c .shared-slice-known2 .given (2 * i + 1))
-
-mul-groups-2 : tie.Need-mul-groups-2 Inv-loop μ-loop
-mul-groups-2 c = search needs
-
-array-write-groups : tie.Need-array-write-groups Inv-loop μ-loop
-array-write-groups c = search needs
-
-add-i : tie.Need-add-i Inv-loop μ-loop
-add-i c = search needs
-
-loop-less : tie.Need-loop-less Inv-loop μ-loop
-loop-less c = search needs
 
 loop-again : tie.Need-loop-again Inv-loop μ-loop
 loop-again c =
@@ -86,19 +56,19 @@ groups-of-spec =
     (tie.spec
     Inv-loop
     μ-loop
-    loop-holds
-    mul-high
-    shared-slice-read-high
+    (λ c. search needs)
+    (λ c. search needs)
+    (λ c. search needs)
     cast-high
-    mul-low
-    add-low
-    shared-slice-read-low
+    (λ c. search needs)
+    (λ c. search needs)
+    (λ c. search needs)
     cast-low
     mul-groups
     add-groups
-    mul-groups-2
-    array-write-groups
-    add-i
-    loop-less
+    (λ c. search needs)
+    (λ c. search needs)
+    (λ c. search needs)
+    (λ c. search needs)
     loop-again
     returns)

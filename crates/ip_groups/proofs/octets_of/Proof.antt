@@ -15,26 +15,8 @@ Inv-loop bytes octets₀ i₀ octets i = (i ≤ 4) × (length octets ≡ 4) × (
 abbrev μ-loop : tie.MeasureT-loop
 μ-loop bytes octets₀ i₀ octets i = 4 - i
 
-loop-holds : tie.Need-loop-holds Inv-loop μ-loop
-loop-holds c = search needs
-
-shared-slice-read-octets : tie.Need-shared-slice-read-octets Inv-loop μ-loop
-shared-slice-read-octets c = search needs
-
 cast-octets : tie.Need-cast-octets Inv-loop μ-loop
 cast-octets c = omega (arith, c .shared-slice-known .given (c .before .before .loop .i))
-
-mul-octets : tie.Need-mul-octets Inv-loop μ-loop
-mul-octets c = search needs
-
-array-write-octets : tie.Need-array-write-octets Inv-loop μ-loop
-array-write-octets c = search needs
-
-add-i : tie.Need-add-i Inv-loop μ-loop
-add-i c = search needs
-
-loop-less : tie.Need-loop-less Inv-loop μ-loop
-loop-less c = search needs
 
 loop-again : tie.Need-loop-again Inv-loop μ-loop
 loop-again c =
@@ -57,12 +39,12 @@ octets-of-spec =
     (tie.spec
     Inv-loop
     μ-loop
-    loop-holds
-    shared-slice-read-octets
+    (λ c. search needs)
+    (λ c. search needs)
     cast-octets
-    mul-octets
-    array-write-octets
-    add-i
-    loop-less
+    (λ c. search needs)
+    (λ c. search needs)
+    (λ c. search needs)
+    (λ c. search needs)
     loop-again
     returns)

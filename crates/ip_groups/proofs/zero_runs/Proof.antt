@@ -22,15 +22,6 @@ abbrev μ-loop : tie.MeasureT-loop
 loop-holds : tie.Need-loop-holds Inv-loop μ-loop
 loop-holds c = (omega arith, runs-none (now (c .args .groups)))
 
-sub-i : tie.Need-sub-i Inv-loop μ-loop
-sub-i c = search needs
-
-mul-if1 : tie.Need-mul-if1 Inv-loop μ-loop
-mul-if1 c = search needs
-
-shared-slice-read-if1 : tie.Need-shared-slice-read-if1 Inv-loop μ-loop
-shared-slice-read-if1 c = search needs
-
 add-first : tie.Need-add-first Inv-loop μ-loop
 add-first c = omega (arith, first-most (c .before .before .before .loop .inv .1))
 
@@ -41,16 +32,10 @@ first-now c =
     let some-left : 0 < l .i = search needs in
     ⊎-elim (λ w. w .1 ∙ zero-before some-left (l .inv .0) (l .inv .1) (w .0 .taken)) (λ w. w .1 ∙ other-before some-left (l .inv .0) (l .inv .1) (w .0 .left)) (c .if1 .came)
 
-loop-less : tie.Need-loop-less Inv-loop μ-loop
-loop-less c = search needs
-
 loop-again : tie.Need-loop-again Inv-loop μ-loop
 loop-again c =
     let l = c .before .before .before .before .loop in
     (omega arith, run-before (search needs) (l .inv .0) (l .inv .1) (first-now (c .before)) (search needs))
-
-loop-less-2 : tie.Need-loop-less-2 Inv-loop μ-loop
-loop-less-2 c = search needs
 
 loop-again-2 : tie.Need-loop-again-2 Inv-loop μ-loop
 loop-again-2 c =
@@ -67,12 +52,12 @@ zero-runs-spec =
     Inv-loop
     μ-loop
     loop-holds
-    sub-i
-    mul-if1
-    shared-slice-read-if1
+    (λ c. search needs)
+    (λ c. search needs)
+    (λ c. search needs)
     add-first
-    loop-less
+    (λ c. search needs)
     loop-again
-    loop-less-2
+    (λ c. search needs)
     loop-again-2
     returns)

@@ -33,17 +33,11 @@ room c =
 abbrev left : tie.After-put-after → tie.After-put-spelled
 left c = c .before .before .before .before .before
 
-slice-aggregate-put-after : tie.Need-slice-aggregate-put-after
-slice-aggregate-put-after c = search needs
-
 sub-put-after : tie.Need-sub-put-after
 sub-put-after c = omega (arith, room (c .before .before .before))
 
 part-put-after-start : tie.Need-part-put-after-start
 part-put-after-start c = omega (arith, room (c .before .before .before))
-
-part-put-after-end : tie.Need-part-put-after-end
-part-put-after-end c = search needs
 
 put-after-requires : tie.Need-put-after-requires
 put-after-requires c κs = rw rest-length (omega (arith, room (c .before .before .before .before)))
@@ -51,9 +45,6 @@ put-after-requires c κs = rw rest-length (omega (arith, room (c .before .before
 add-result : tie.Need-add-result
 add-result c =
     omega (arith, room (left (c .before .before)), c .before .before .put-after .ensures .size)
-
-same-length : tie.Need-same-length
-same-length c = search needs
 
 returns : tie.Need-returns
 unfolding ascii
@@ -65,11 +56,11 @@ put-elided-spec =
     tie.close
     (tie.spec
     put-spelled-requires
-    slice-aggregate-put-after
+    (λ c. search needs)
     sub-put-after
     part-put-after-start
-    part-put-after-end
+    (λ c. search needs)
     put-after-requires
     add-result
-    same-length
+    (λ c. search needs)
     returns)

@@ -12,36 +12,6 @@ use borrow.Author.Needs.{needs}
 use Rattle.ip_text.proofs.put_ipv6.Statement.{statement}
 use Rattle.ip_text.proofs.put_ipv6.Tie as tie
 
-groups-of-requires : tie.Need-groups-of-requires
-groups-of-requires c κs = search needs
-
-slice-aggregate-zero-runs : tie.Need-slice-aggregate-zero-runs
-slice-aggregate-zero-runs c = search needs
-
-zero-runs-requires : tie.Need-zero-runs-requires
-zero-runs-requires c κs = search needs
-
-array-read-if2 : tie.Need-array-read-if2
-array-read-if2 c = search needs
-
-sub-octets-of : tie.Need-sub-octets-of
-sub-octets-of c = search needs
-
-part-octets-of-start : tie.Need-part-octets-of-start
-part-octets-of-start c = search needs
-
-part-octets-of-end : tie.Need-part-octets-of-end
-part-octets-of-end c = search needs
-
-octets-of-requires : tie.Need-octets-of-requires
-octets-of-requires c κs = search needs
-
-slice-aggregate-put-after : tie.Need-slice-aggregate-put-after
-slice-aggregate-put-after c = search needs
-
-slice-aggregate-put-after-2 : tie.Need-slice-aggregate-put-after-2
-slice-aggregate-put-after-2 c = search needs
-
 -- past the runs: the address, its groups and their runs
 abbrev start : tie.After-zero-runs → tie.Start
 start c = c .before .before .before .before .before
@@ -63,17 +33,11 @@ put-after-requires c κs =
     let tail = c .before .before .before in
     omega (arith, start (tail .before .before .before .before .before) .pre .1, ap length (mapped tail))
 
-same-length : tie.Need-same-length
-same-length c = search needs
-
 returns : tie.Need-returns
 unfolding ascii
 returns c =
     let written = c .before .before in
     rw (← mapped (written .before .before .before .before)) (written .put-after .ensures)
-
-slice-aggregate-put-shortened : tie.Need-slice-aggregate-put-shortened
-slice-aggregate-put-shortened c = search needs
 
 -- where one of them does not, the groups are shortened
 plain : (c : tie.Joined1) → let runs = c .before .before in shortened (runs .before .before .groups-of .result) ≡ ipv6Text (address runs)
@@ -88,9 +52,6 @@ put-shortened-requires c κs =
     let runs = here .before .before in
     (runs .zero-runs .ensures .run, omega (arith, start runs .pre .1, ap length (plain here)))
 
-same-length-2 : tie.Need-same-length-2
-same-length-2 c = search needs
-
 returns-2 : tie.Need-returns-2
 returns-2 c =
     let written = c .before .before in
@@ -100,20 +61,20 @@ pub put-ipv6-spec : {M : Type 1} → statement M
 put-ipv6-spec =
     tie.close
     (tie.spec
-    groups-of-requires
-    slice-aggregate-zero-runs
-    zero-runs-requires
-    array-read-if2
-    sub-octets-of
-    part-octets-of-start
-    part-octets-of-end
-    octets-of-requires
-    slice-aggregate-put-after
-    slice-aggregate-put-after-2
+    (λ c κs. search needs)
+    (λ c. search needs)
+    (λ c κs. search needs)
+    (λ c. search needs)
+    (λ c. search needs)
+    (λ c. search needs)
+    (λ c. search needs)
+    (λ c κs. search needs)
+    (λ c. search needs)
+    (λ c. search needs)
     put-after-requires
-    same-length
+    (λ c. search needs)
     returns
-    slice-aggregate-put-shortened
+    (λ c. search needs)
     put-shortened-requires
-    same-length-2
+    (λ c. search needs)
     returns-2)

@@ -19,9 +19,6 @@ put-spelled-requires c κs =
     let p = c .before .before .before .before .pre in
     omega (arith, p .1, ap length (plain-form (p .0) (search needs)))
 
-same-length : tie.Need-same-length
-same-length c = search needs
-
 returns : tie.Need-returns
 returns c =
     let written = c .before .before in
@@ -42,17 +39,11 @@ sub-put-elided c = inside (c .before .before .before .before) (search needs)
 part-put-elided-start : tie.Need-part-put-elided-start
 part-put-elided-start c = inside (c .before .before .before .before) (search needs)
 
-part-put-elided-end : tie.Need-part-put-elided-end
-part-put-elided-end c = search needs
-
 put-elided-requires : tie.Need-put-elided-requires
 put-elided-requires c κs =
     let parts = c .before .before in
     let p = parts .before .before .before .before .pre in
     rw (short-form (p .0) (search needs)) (p .1)
-
-same-length-2 : tie.Need-same-length-2
-same-length-2 c = search needs
 
 returns-2 : tie.Need-returns-2
 returns-2 c =
@@ -65,14 +56,14 @@ put-shortened-spec =
     tie.close
     (tie.spec
     put-spelled-requires
-    same-length
+    (λ c. search needs)
     returns
     add-rest
     slice-aggregate-put-elided
     mul-put-elided
     sub-put-elided
     part-put-elided-start
-    part-put-elided-end
+    (λ c. search needs)
     put-elided-requires
-    same-length-2
+    (λ c. search needs)
     returns-2)

@@ -9,9 +9,6 @@ put-ipv4-requires c κs =
     let p = c .before .before .before .before .pre in
     (c .before .if1 .taken, rw (ipv4-text (c .before .before .before .before .args .address .now) (c .before .if1 .taken)) at (p .1))
 
-same-length : tie.Need-same-length
-same-length c = search needs
-
 returns : tie.Need-returns
 returns c =
     let short = c .before .before .before .before in
@@ -22,9 +19,6 @@ put-ipv6-requires c κs =
     let p = c .before .before .before .before .pre in
     (p .0 .1 (c .before .if1 .left), rw (ipv6-text (c .before .before .before .before .args .address .now) (c .before .if1 .left)) at (p .1))
 
-same-length-2 : tie.Need-same-length-2
-same-length-2 c = search needs
-
 returns-2 : tie.Need-returns-2
 returns-2 c =
     let long = c .before .before .before .before in
@@ -33,4 +27,4 @@ returns-2 c =
 pub put-text-spec : {M : Type 1} → statement M
 put-text-spec =
     tie.close
-    (tie.spec put-ipv4-requires same-length returns put-ipv6-requires same-length-2 returns-2)
+    (tie.spec put-ipv4-requires (λ c. search needs) returns put-ipv6-requires (λ c. search needs) returns-2)

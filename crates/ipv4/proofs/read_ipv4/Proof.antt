@@ -26,20 +26,8 @@ abbrev μ-loop : tie.MeasureT-loop
 loop-holds : tie.Need-loop-holds Inv-loop μ-loop
 loop-holds c = (omega arith, refl, prefixed-by-nil _, omega arith)
 
-first-piece-requires : tie.Need-first-piece-requires Inv-loop μ-loop
-first-piece-requires c κs = search needs
-
 slice-aggregate-read-decimal : tie.Need-slice-aggregate-read-decimal Inv-loop μ-loop
 slice-aggregate-read-decimal c = sym (length-take-le _ _ (c .before .first-piece .ensures .fits))
-
-read-decimal-requires : tie.Need-read-decimal-requires Inv-loop μ-loop
-read-decimal-requires c κs = search needs
-
-enum-known-octet : tie.Need-enum-known-octet Inv-loop μ-loop
-enum-known-octet c = search needs
-
-enum-told : tie.Need-enum-told Inv-loop μ-loop
-enum-told c = search needs
 
 returns : tie.Need-returns Inv-loop μ-loop
 unfolding found
@@ -53,12 +41,6 @@ returns c =
 cast-bytes : tie.Need-cast-bytes Inv-loop μ-loop
 cast-bytes c = omega (arith, decimal-le 255 _ _ (sym (c .before .before .before .read-decimal .ensures) ∙ c .before .octet .given .1))
 
-array-write-bytes : tie.Need-array-write-bytes Inv-loop μ-loop
-array-write-bytes c = search needs
-
-add-n : tie.Need-add-n Inv-loop μ-loop
-add-n c = search needs
-
 returns-2 : tie.Need-returns-2 Inv-loop μ-loop
 returns-2 c =
     let octet = c .before .before in
@@ -69,21 +51,6 @@ returns-2 c =
     let o = octet .octet .given in
     ipv4-done s (now (l .t)) (l .bytes) (l .n) (l .inv .2) (l .inv .1) (p .result) (p .ensures) (o .0 .0)
     (sym (c .before .before .before .before .read-decimal .ensures) ∙ o .1) (omega arith) (omega arith)
-
-add-t : tie.Need-add-t Inv-loop μ-loop
-add-t c = omega arith
-
-sub-t : tie.Need-sub-t Inv-loop μ-loop
-sub-t c = search needs
-
-part-t-start : tie.Need-part-t-start Inv-loop μ-loop
-part-t-start c = search needs
-
-part-t-end : tie.Need-part-t-end Inv-loop μ-loop
-part-t-end c = search needs
-
-loop-less : tie.Need-loop-less Inv-loop μ-loop
-loop-less c = search needs
 
 loop-again : tie.Need-loop-again Inv-loop μ-loop
 loop-again c =
@@ -114,20 +81,20 @@ read-ipv4-spec =
     Inv-loop
     μ-loop
     loop-holds
-    first-piece-requires
+    (λ c κs. search needs)
     slice-aggregate-read-decimal
-    read-decimal-requires
-    enum-known-octet
-    enum-told
+    (λ c κs. search needs)
+    (λ c. search needs)
+    (λ c. search needs)
     returns
     cast-bytes
-    array-write-bytes
-    add-n
+    (λ c. search needs)
+    (λ c. search needs)
     returns-2
-    add-t
-    sub-t
-    part-t-start
-    part-t-end
-    loop-less
+    (λ c. omega arith)
+    (λ c. search needs)
+    (λ c. search needs)
+    (λ c. search needs)
+    (λ c. search needs)
     loop-again
     returns-3)

@@ -7,21 +7,6 @@ use Rattle.octets.proofs.Fronts.{stored₂}
 use Rattle.ipv6.proofs.put_group.Statement.{statement}
 use Rattle.ipv6.proofs.put_group.Tie as tie
 
-cast-b : tie.Need-cast-b
-cast-b c = search needs
-
-array-write-b : tie.Need-array-write-b
-array-write-b c = search needs
-
-cast-b-2 : tie.Need-cast-b-2
-cast-b-2 c = search needs
-
-add-b : tie.Need-add-b
-add-b c = search needs
-
-array-write-b-2 : tie.Need-array-write-b-2
-array-write-b-2 c = search needs
-
 returns : tie.Need-returns
 returns c =
     let a = c .args in
@@ -29,4 +14,4 @@ returns c =
     stored₂ (a .bytes) (a .n) _ _ (omega arith)
 
 pub put-group-spec : {M : Type 1} → statement M
-put-group-spec = tie.close (tie.spec cast-b array-write-b cast-b-2 add-b array-write-b-2 returns)
+put-group-spec = tie.close (tie.spec (λ c. search needs) (λ c. search needs) (λ c. search needs) (λ c. search needs) (λ c. search needs) returns)

@@ -17,24 +17,6 @@ use Rattle.ipv6.proofs.read_elided.Tie as tie
 slice-aggregate-read-side : tie.Need-slice-aggregate-read-side
 slice-aggregate-read-side c = sym (length-take-le _ _ (omega arith))
 
-read-side-requires : tie.Need-read-side-requires
-read-side-requires c κs = search needs
-
-add-read-side : tie.Need-add-read-side
-add-read-side c = search needs
-
-sub-read-side : tie.Need-sub-read-side
-sub-read-side c = search needs
-
-part-read-side-start : tie.Need-part-read-side-start
-part-read-side-start c = search needs
-
-part-read-side-end : tie.Need-part-read-side-end
-part-read-side-end c = search needs
-
-read-side-requires-2 : tie.Need-read-side-requires-2
-read-side-requires-2 c κs = search needs
-
 join-sides-requires : tie.Need-join-sides-requires
 join-sides-requires c κs =
     let right = c .before .before .before .before in
@@ -66,12 +48,12 @@ read-elided-spec =
     tie.close
     (tie.spec
     slice-aggregate-read-side
-    read-side-requires
-    add-read-side
-    sub-read-side
-    part-read-side-start
-    part-read-side-end
-    read-side-requires-2
+    (λ c κs. search needs)
+    (λ c. search needs)
+    (λ c. search needs)
+    (λ c. search needs)
+    (λ c. search needs)
+    (λ c κs. search needs)
     join-sides-requires
     returns
     returns-2

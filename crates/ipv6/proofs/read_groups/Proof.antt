@@ -25,26 +25,11 @@ Inv-loop s tail bytes₀ n₀ t₀ j₀ bytes n t j =
 abbrev μ-loop : tie.MeasureT-loop
 μ-loop s tail bytes₀ n₀ t₀ j₀ bytes n t j = length t
 
-first-piece-requires : tie.Need-first-piece-requires Inv-loop μ-loop
-first-piece-requires c κs = search needs
-
 loop-holds : tie.Need-loop-holds Inv-loop μ-loop
 loop-holds c = (omega arith, refl, omega arith, c .first-piece .ensures, prefixed-by-nil _)
 
 slice-aggregate-read-h16 : tie.Need-slice-aggregate-read-h16 Inv-loop μ-loop
 slice-aggregate-read-h16 c = sym (length-take-le _ _ (c .before .before .loop .inv .3 .fits))
-
-read-h16-requires : tie.Need-read-h16-requires Inv-loop μ-loop
-read-h16-requires c κs = search needs
-
-enum-known-g : tie.Need-enum-known-g Inv-loop μ-loop
-enum-known-g c = search needs
-
-enum-told : tie.Need-enum-told Inv-loop μ-loop
-enum-told c = search needs
-
-no-groups-requires : tie.Need-no-groups-requires Inv-loop μ-loop
-no-groups-requires c κs = search needs
 
 returns : tie.Need-returns Inv-loop μ-loop
 returns c =
@@ -55,9 +40,6 @@ returns c =
     let t = now (l .t) in
     no-group (c .no-groups .ensures)
     (groups-bad (a .tail) s t (l .bytes) (l .n) (l .j) (l .inv .4) (l .inv .3) (omega arith) (sym (c .before .before .before .read-h16 .ensures) ∙ c .before .enum-told .given .1))
-
-no-groups-requires-2 : tie.Need-no-groups-requires-2 Inv-loop μ-loop
-no-groups-requires-2 c κs = search needs
 
 returns-2 : tie.Need-returns-2 Inv-loop μ-loop
 returns-2 c =
@@ -74,24 +56,6 @@ returns-2 c =
 
 put-group-requires : tie.Need-put-group-requires Inv-loop μ-loop
 put-group-requires c κs = (omega arith, h16-le _ _ (sym (c .before .before .before .before .read-h16 .ensures) ∙ c .before .before .g .given .1))
-
-add-n : tie.Need-add-n Inv-loop μ-loop
-add-n c = search needs
-
-add-t : tie.Need-add-t Inv-loop μ-loop
-add-t c = search needs
-
-sub-t : tie.Need-sub-t Inv-loop μ-loop
-sub-t c = search needs
-
-part-t-start : tie.Need-part-t-start Inv-loop μ-loop
-part-t-start c = search needs
-
-part-t-end : tie.Need-part-t-end Inv-loop μ-loop
-part-t-end c = search needs
-
-first-piece-requires-2 : tie.Need-first-piece-requires-2 Inv-loop μ-loop
-first-piece-requires-2 c κs = search needs
 
 loop-less : tie.Need-loop-less Inv-loop μ-loop
 loop-less c =
@@ -119,9 +83,6 @@ loop-again c =
       rw (rest-is t (l .j + 1)) (groups-next (a .tail) s t (l .bytes) (l .n) (l .j) (l .inv .4) (l .inv .3) (omega arith) v e (c .before .before .put-group .result) (c .before .before .put-group .ensures)),
     )
 
-read-last-requires : tie.Need-read-last-requires Inv-loop μ-loop
-read-last-requires c κs = search needs
-
 returns-3 : tie.Need-returns-3 Inv-loop μ-loop
 returns-3 c =
     let a = c .before .before .before .before .before .args in
@@ -136,24 +97,24 @@ read-groups-spec =
     (tie.spec
     Inv-loop
     μ-loop
-    first-piece-requires
+    (λ c κs. search needs)
     loop-holds
     slice-aggregate-read-h16
-    read-h16-requires
-    enum-known-g
-    enum-told
-    no-groups-requires
+    (λ c κs. search needs)
+    (λ c. search needs)
+    (λ c. search needs)
+    (λ c κs. search needs)
     returns
-    no-groups-requires-2
+    (λ c κs. search needs)
     returns-2
     put-group-requires
-    add-n
-    add-t
-    sub-t
-    part-t-start
-    part-t-end
-    first-piece-requires-2
+    (λ c. search needs)
+    (λ c. search needs)
+    (λ c. search needs)
+    (λ c. search needs)
+    (λ c. search needs)
+    (λ c κs. search needs)
     loop-less
     loop-again
-    read-last-requires
+    (λ c κs. search needs)
     returns-3)

@@ -13,9 +13,6 @@ use Rattle.ipv6.proofs.GroupLaws.{read-some, read-none, exactly-none}
 use Rattle.ipv6.proofs.read_ipv6.Statement.{statement}
 use Rattle.ipv6.proofs.read_ipv6.Tie as tie
 
-find-elision-requires : tie.Need-find-elision-requires
-find-elision-requires c κs = search needs
-
 read-elided-requires : tie.Need-read-elided-requires
 read-elided-requires c κs =
     let s = now (c .before .before .before .args .s) in
@@ -27,9 +24,6 @@ unfolding ipv6
 returns c =
     let s = now (c .before .before .before .before .args .s) in
     rw (← (c .before .before .find-elision .ensures), lt-ltb _ _ (c .before .if1 .taken)) (c .read-elided .ensures)
-
-read-groups-requires : tie.Need-read-groups-requires
-read-groups-requires c κs = search needs
 
 returns-2 : tie.Need-returns-2
 unfolding ipv6
@@ -48,9 +42,9 @@ pub read-ipv6-spec : {M : Type 1} → statement M
 read-ipv6-spec =
     tie.close
     (tie.spec
-    find-elision-requires
+    (λ c κs. search needs)
     read-elided-requires
     returns
-    read-groups-requires
+    (λ c κs. search needs)
     returns-2
     returns-3)

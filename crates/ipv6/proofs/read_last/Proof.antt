@@ -11,15 +11,6 @@ use Rattle.ipv6.proofs.GroupLaws.{no-group, answered, over, put, missin
 use Rattle.ipv6.proofs.read_last.Statement.{statement}
 use Rattle.ipv6.proofs.read_last.Tie as tie
 
-read-h16-requires : tie.Need-read-h16-requires
-read-h16-requires c κs = search needs
-
-enum-known-g : tie.Need-enum-known-g
-enum-known-g c = search needs
-
-no-groups-requires : tie.Need-no-groups-requires
-no-groups-requires c κs = search needs
-
 returns : tie.Need-returns
 returns c =
     let read = c .before .before .before .before .before in
@@ -32,9 +23,6 @@ returns c =
 put-group-requires : tie.Need-put-group-requires
 put-group-requires c κs = (omega arith, h16-le _ _ (sym (c .before .before .before .before .read-h16 .ensures) ∙ c .before .before .g .given .1))
 
-add-t9 : tie.Need-add-t9
-add-t9 c = search needs
-
 returns-2 : tie.Need-returns-2
 returns-2 c =
     let read = c .before .before .before .before .before in
@@ -45,12 +33,6 @@ returns-2 c =
     answered (omega arith)
     (put (a .n) (a .bytes) l (lastGroup (a .tail) (now (a .t))) _ (c .put-group .result) (a .n + 2) (last-group (now (a .t)) (a .tail) v e) (c .put-group .ensures))
 
-enum-told : tie.Need-enum-told
-enum-told c = search needs
-
-read-tail-requires : tie.Need-read-tail-requires
-read-tail-requires c κs = search needs
-
 returns-3 : tie.Need-returns-3
 returns-3 c =
     let read = c .before .before .before .before in
@@ -58,9 +40,6 @@ returns-3 c =
     let l : length (a .bytes) ≡ 16 = search needs in
     let e = sym (read .read-h16 .ensures) ∙ c .before .before .enum-told .given .1 in
     rw (last-ipv4 (now (a .t)) (a .tail) e (c .before .if2 .taken)) (c .read-tail .ensures)
-
-no-groups-requires-2 : tie.Need-no-groups-requires-2
-no-groups-requires-2 c κs = search needs
 
 returns-4 : tie.Need-returns-4
 returns-4 c =
@@ -74,15 +53,15 @@ pub read-last-spec : {M : Type 1} → statement M
 read-last-spec =
     tie.close
     (tie.spec
-    read-h16-requires
-    enum-known-g
-    no-groups-requires
+    (λ c κs. search needs)
+    (λ c. search needs)
+    (λ c κs. search needs)
     returns
     put-group-requires
-    add-t9
+    (λ c. search needs)
     returns-2
-    enum-told
-    read-tail-requires
+    (λ c. search needs)
+    (λ c κs. search needs)
     returns-3
-    no-groups-requires-2
+    (λ c κs. search needs)
     returns-4)

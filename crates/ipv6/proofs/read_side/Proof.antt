@@ -9,11 +9,8 @@ use Rattle.ipv6.proofs.read_side.Tie as tie
 returns : tie.Need-returns
 returns c = answered (omega arith) (side-empty (c .before .before .args .tail) (now (c .before .before .args .s)) (c .if1 .taken))
 
-read-groups-requires : tie.Need-read-groups-requires
-read-groups-requires c κs = search needs
-
 returns-2 : tie.Need-returns-2
 returns-2 c = rw (side-groups (c .before .before .before .args .tail) (now (c .before .before .before .args .s)) (c .before .if1 .left)) (c .read-groups .ensures)
 
 pub read-side-spec : {M : Type 1} → statement M
-read-side-spec = tie.close (tie.spec returns read-groups-requires returns-2)
+read-side-spec = tie.close (tie.spec returns (λ c κs. search needs) returns-2)

@@ -11,12 +11,6 @@ use Rattle.ipv6.proofs.GroupLaws.{no-group, answered, over, put, missin
 use Rattle.ipv6.proofs.read_tail.Statement.{statement}
 use Rattle.ipv6.proofs.read_tail.Tie as tie
 
-read-ipv4-requires : tie.Need-read-ipv4-requires
-read-ipv4-requires c κs = search needs
-
-no-groups-requires : tie.Need-no-groups-requires
-no-groups-requires c κs = search needs
-
 returns : tie.Need-returns
 unfolding found
 returns c =
@@ -24,12 +18,6 @@ returns c =
     let l : length (a .bytes) ≡ 16 = search needs in
     let f : length (c .before .before .before .read-ipv4 .result .bytes) ≡ 4 = search needs in
     no-group (c .no-groups .ensures) (over (a .n) (a .bytes) l (ipv4 (now (a .t))) (c .before .before .before .read-ipv4 .result .bytes) (sym (c .before .before .before .read-ipv4 .ensures) ∙ rw (c .before .before .if1 .taken)) (omega arith) (omega arith))
-
-put-ipv4-requires : tie.Need-put-ipv4-requires
-put-ipv4-requires c κs = search needs
-
-add-t9 : tie.Need-add-t9
-add-t9 c = search needs
 
 returns-2 : tie.Need-returns-2
 unfolding found
@@ -39,9 +27,6 @@ returns-2 c =
     let l : length (a .bytes) ≡ 16 = search needs in
     answered (omega arith)
     (put (a .n) (a .bytes) l (ipv4 (now (a .t))) (read .read-ipv4 .result .bytes) (c .put-ipv4 .result) (a .n + 4) (sym (read .read-ipv4 .ensures) ∙ rw (c .before .before .before .if1 .taken)) (c .put-ipv4 .ensures))
-
-no-groups-requires-2 : tie.Need-no-groups-requires-2
-no-groups-requires-2 c κs = search needs
 
 returns-3 : tie.Need-returns-3
 unfolding found
@@ -54,11 +39,11 @@ pub read-tail-spec : {M : Type 1} → statement M
 read-tail-spec =
     tie.close
     (tie.spec
-    read-ipv4-requires
-    no-groups-requires
+    (λ c κs. search needs)
+    (λ c κs. search needs)
     returns
-    put-ipv4-requires
-    add-t9
+    (λ c κs. search needs)
+    (λ c. search needs)
     returns-2
-    no-groups-requires-2
+    (λ c κs. search needs)
     returns-3)

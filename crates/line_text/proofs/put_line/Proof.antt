@@ -15,12 +15,6 @@ use borrow.Author.Needs.{needs}
 use Rattle.line_text.proofs.put_line.Statement.{statement}
 use Rattle.line_text.proofs.put_line.Tie as tie
 
-kind-number-requires : tie.Need-kind-number-requires
-kind-number-requires c κs = search needs
-
-slice-aggregate-put-spelled : tie.Need-slice-aggregate-put-spelled
-slice-aggregate-put-spelled c = search needs
-
 abbrev start : tie.After-kind-number → tie.Start
 start c = c .before .before .before
 
@@ -57,9 +51,6 @@ sub-put-following c = omega (arith, fits (c .before .before .before))
 part-put-following-start : tie.Need-part-put-following-start
 part-put-following-start c = omega (arith, fits (c .before .before .before))
 
-part-put-following-end : tie.Need-part-put-following-end
-part-put-following-end c = search needs
-
 put-following-requires : tie.Need-put-following-requires
 put-following-requires c κs = rw rest-length (omega (arith, fits (c .before .before .before .before)))
 
@@ -89,13 +80,13 @@ pub put-line-spec : {M : Type 1} → statement M
 put-line-spec =
     tie.close
     (tie.spec
-    kind-number-requires
-    slice-aggregate-put-spelled
+    (λ c κs. search needs)
+    (λ c. search needs)
     put-spelled-requires
     slice-aggregate-put-following
     sub-put-following
     part-put-following-start
-    part-put-following-end
+    (λ c. search needs)
     put-following-requires
     add-at
     slice-write-out

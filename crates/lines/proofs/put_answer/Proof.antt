@@ -9,9 +9,6 @@ use borrow.Author.Needs.{needs}
 use Rattle.lines.proofs.put_answer.Statement.{statement}
 use Rattle.lines.proofs.put_answer.Tie as tie
 
-answer-requires : tie.Need-answer-requires
-answer-requires c κs = search needs
-
 abbrev start : tie.After-answer → tie.Start
 start c = c .before .before .before .before .before
 
@@ -27,21 +24,12 @@ consistent c = replies .first (start c .args .path .now) (start c .args .image .
 returns : tie.Need-returns
 returns c = no-room (answered (c .before) .list) (omega arith)
 
-reports-requires : tie.Need-reports-requires
-reports-requires c κs = search needs
-
-cast-n : tie.Need-cast-n
-cast-n c = search needs
-
 put-line-requires : tie.Need-put-line-requires
 put-line-requires c κs =
     let at-answer = c .before .before .before .before .before in
     let few = reported-few (consistent at-answer) (answered at-answer) in
     let e = c .before .before .before .reports .ensures in
     (omega (arith, at-answer .answer .kept .1 .1 .0, at-answer .before .answer-arg .given .0 .1), omega arith)
-
-same-length : tie.Need-same-length
-same-length c = search needs
 
 returns-2 : tie.Need-returns-2
 returns-2 c =
@@ -53,10 +41,10 @@ pub put-answer-spec : {M : Type 1} → statement M
 put-answer-spec =
     tie.close
     (tie.spec
-    answer-requires
+    (λ c κs. search needs)
     returns
-    reports-requires
-    cast-n
+    (λ c κs. search needs)
+    (λ c. search needs)
     put-line-requires
-    same-length
+    (λ c. search needs)
     returns-2)

@@ -44,12 +44,6 @@ element-write-firsts c = let few = c .before .before .before .before .pre .0 .fe
 add-n : tie.Need-add-n Inv-loop μ-loop
 add-n c = let few = c .before .before .before .before .pre .0 .few in search needs
 
-add-i : tie.Need-add-i Inv-loop μ-loop
-add-i c = search needs
-
-loop-less : tie.Need-loop-less Inv-loop μ-loop
-loop-less c = search needs
-
 loop-again : tie.Need-loop-again Inv-loop μ-loop
 loop-again c =
     let l = c .before .before .before .loop in
@@ -76,7 +70,7 @@ gather-spec =
     mul-firsts
     element-write-firsts
     add-n
-    add-i
-    loop-less
+    (λ c. search needs)
+    (λ c. search needs)
     loop-again
     returns)

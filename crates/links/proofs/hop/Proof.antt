@@ -21,9 +21,6 @@ Inv-loop image family firsts links n i width end j₀ j =
 abbrev μ-loop : tie.MeasureT-loop
 μ-loop image family firsts links n i width end j₀ j = n - j
 
-width-of-requires : tie.Need-width-of-requires Inv-loop μ-loop
-width-of-requires c κs = search needs
-
 mul-end : tie.Need-mul-end Inv-loop μ-loop
 mul-end c = let few = c .before .before .pre .0 .few in search needs
 
@@ -120,7 +117,7 @@ hop-spec =
     (tie.spec
     Inv-loop
     μ-loop
-    width-of-requires
+    (λ c κs. search needs)
     mul-end
     element-copy-out-end
     cast-end

@@ -22,9 +22,6 @@ loop-holds c =
     let all = c .before .pre .counted in
     (refl, omega arith, λ j p q. absurd (omega arith))
 
-sub-i : tie.Need-sub-i Inv-loop μ-loop
-sub-i c = search needs
-
 hop-requires : tie.Need-hop-requires Inv-loop μ-loop
 hop-requires c κs = (c .before .before .before .before .pre, omega arith, λ j p q. c .before .before .loop .inv .2 j (omega arith) q)
 
@@ -41,9 +38,6 @@ mul-links c = let few = c .before .before .before .before .before .pre .few in s
 
 array-write-links : tie.Need-array-write-links Inv-loop μ-loop
 array-write-links c = let few = c .before .before .before .before .before .pre .few in search needs
-
-loop-less : tie.Need-loop-less Inv-loop μ-loop
-loop-less c = search needs
 
 loop-again : tie.Need-loop-again Inv-loop μ-loop
 loop-again c =
@@ -65,11 +59,11 @@ links-of-spec =
     Inv-loop
     μ-loop
     loop-holds
-    sub-i
+    (λ c. search needs)
     hop-requires
     cast-links
     mul-links
     array-write-links
-    loop-less
+    (λ c. search needs)
     loop-again
     returns)

@@ -6,12 +6,6 @@ use Rattle.merged.proofs.Fields.{bytes-inside, bytes-short, bytes-whole
 use Rattle.merged.proofs.field_bytes.Statement.{statement}
 use Rattle.merged.proofs.field_bytes.Tie as tie
 
-step-at-requires : tie.Need-step-at-requires
-step-at-requires c κs = search needs
-
-enum-known-end : tie.Need-enum-known-end
-enum-known-end c = search needs
-
 sub-result : tie.Need-sub-result
 sub-result c = let i = bytes-inside _ _ _ (c .before .before .before .step-at .ensures) _ _ _ (c .before .end .given .1) in omega (arith, i .after, i .forward)
 
@@ -20,18 +14,6 @@ part-result-start c = let i = bytes-inside _ _ _ (c .before .before .before .ste
 
 part-result-end : tie.Need-part-result-end
 part-result-end c = let i = bytes-inside _ _ _ (c .before .before .before .step-at .ensures) _ _ _ (c .before .end .given .1) in omega (arith, i .within)
-
-enum-told : tie.Need-enum-told
-enum-told c = search needs
-
-sub-result-2 : tie.Need-sub-result-2
-sub-result-2 c = search needs
-
-part-result-start-2 : tie.Need-part-result-start-2
-part-result-start-2 c = search needs
-
-part-result-end-2 : tie.Need-part-result-end-2
-part-result-end-2 c = search needs
 
 returns : tie.Need-returns
 returns c = bytes-whole _ _ _ (c .before .before .before .before .step-at .ensures) _ _ _ (c .before .before .end .given .1)
@@ -43,14 +25,14 @@ pub field-bytes-spec : {M : Type 1} → statement M
 field-bytes-spec =
     tie.close
     (tie.spec
-    step-at-requires
-    enum-known-end
+    (λ c κs. search needs)
+    (λ c. search needs)
     sub-result
     part-result-start
     part-result-end
-    enum-told
-    sub-result-2
-    part-result-start-2
-    part-result-end-2
+    (λ c. search needs)
+    (λ c. search needs)
+    (λ c. search needs)
+    (λ c. search needs)
     returns
     returns-2)

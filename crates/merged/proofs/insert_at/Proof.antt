@@ -25,34 +25,16 @@ loop-holds c = (omega arith, omega arith, shift-start _ _ (room c))
 long : (c : tie.In-loop Inv-loop μ-loop) → c .before .loop .i < mostEntries
 long c = omega (arith, c .before .before .pre .1, c .before .loop .inv .1)
 
-sub-index : tie.Need-sub-index Inv-loop μ-loop
-sub-index c = search needs
-
-mul-index : tie.Need-mul-index Inv-loop μ-loop
-mul-index c = search needs
-
 element-copy-out-index : tie.Need-element-copy-out-index Inv-loop μ-loop
 element-copy-out-index c = omega (arith, long c)
 
-mul-index-2 : tie.Need-mul-index-2 Inv-loop μ-loop
-mul-index-2 c = search needs
-
 element-write-index : tie.Need-element-write-index Inv-loop μ-loop
 element-write-index c = omega (arith, long (c .before))
-
-sub-i : tie.Need-sub-i Inv-loop μ-loop
-sub-i c = search needs
-
-loop-less : tie.Need-loop-less Inv-loop μ-loop
-loop-less c = search needs
 
 loop-again : tie.Need-loop-again Inv-loop μ-loop
 loop-again c =
     let l = c .before .before .loop in
     (omega (arith, c .before .loop-test .taken), omega (arith, l .inv .1), shift-step _ _ (room (c .before .before .before)) (l .i) _ (l .inv .2) (omega (arith, c .before .loop-test .taken)) (l .inv .1))
-
-mul-index-3 : tie.Need-mul-index-3 Inv-loop μ-loop
-mul-index-3 c = search needs
 
 element-write-index-2 : tie.Need-element-write-index-2 Inv-loop μ-loop
 element-write-index-2 c = omega (arith, c .before .before .pre, c .before .loop .inv .1)
@@ -74,14 +56,14 @@ insert-at-spec =
     Inv-loop
     μ-loop
     loop-holds
-    sub-index
-    mul-index
+    (λ c. search needs)
+    (λ c. search needs)
     element-copy-out-index
-    mul-index-2
+    (λ c. search needs)
     element-write-index
-    sub-i
-    loop-less
+    (λ c. search needs)
+    (λ c. search needs)
     loop-again
-    mul-index-3
+    (λ c. search needs)
     element-write-index-2
     returns)

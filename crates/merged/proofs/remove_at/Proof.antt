@@ -13,16 +13,10 @@ Inv-loop index₀ n at i₀ index i = (at < i) × (i ≤ n) × Moved index₀ at
 abbrev μ-loop : tie.MeasureT-loop
 μ-loop index₀ n at i₀ index i = n - i
 
-add-i : tie.Need-add-i Inv-loop μ-loop
-add-i c = search needs
-
 loop-holds : tie.Need-loop-holds Inv-loop μ-loop
 loop-holds c =
     let e : c .args .at + 1 - suc (c .args .at) ≡ 0 = omega arith in
     (omega arith, omega (arith, c .pre .2), rw e (move-start _ _))
-
-mul-index : tie.Need-mul-index Inv-loop μ-loop
-mul-index c = search needs
 
 element-copy-out-index : tie.Need-element-copy-out-index Inv-loop μ-loop
 element-copy-out-index c = omega (arith, c .before .before .pre .1, c .loop-test .taken)
@@ -30,17 +24,8 @@ element-copy-out-index c = omega (arith, c .before .before .pre .1, c .loop-test
 sub-index : tie.Need-sub-index Inv-loop μ-loop
 sub-index c = omega (arith, c .before .before .loop .inv .0)
 
-mul-index-2 : tie.Need-mul-index-2 Inv-loop μ-loop
-mul-index-2 c = search needs
-
 element-write-index : tie.Need-element-write-index Inv-loop μ-loop
 element-write-index c = omega (arith, c .before .before .before .pre .1, c .before .loop-test .taken)
-
-add-i-2 : tie.Need-add-i-2 Inv-loop μ-loop
-add-i-2 c = search needs
-
-loop-less : tie.Need-loop-less Inv-loop μ-loop
-loop-less c = search needs
 
 loop-again : tie.Need-loop-again Inv-loop μ-loop
 loop-again c =
@@ -68,14 +53,14 @@ remove-at-spec =
     (tie.spec
     Inv-loop
     μ-loop
-    add-i
+    (λ c. search needs)
     loop-holds
-    mul-index
+    (λ c. search needs)
     element-copy-out-index
     sub-index
-    mul-index-2
+    (λ c. search needs)
     element-write-index
-    add-i-2
-    loop-less
+    (λ c. search needs)
+    (λ c. search needs)
     loop-again
     returns)

@@ -21,14 +21,8 @@ loop-holds : tie.Need-loop-holds Inv-loop μ-loop
 unfolding rowOf
 loop-holds c = (omega arith, refl, omega arith)
 
-mul-record-at : tie.Need-mul-record-at Inv-loop μ-loop
-mul-record-at c = search needs
-
 element-copy-out-record-at : tie.Need-element-copy-out-record-at Inv-loop μ-loop
 element-copy-out-record-at c = omega (arith, c .loop-test .taken, c .before .before .before .before .pre .1)
-
-record-at-requires : tie.Need-record-at-requires Inv-loop μ-loop
-record-at-requires c κs = search needs
 
 bound : (c : tie.After-record-at Inv-loop μ-loop) → length (now (c .record-at .result)) ≤ 262144
 bound c =
@@ -37,12 +31,6 @@ bound c =
 
 add-size : tie.Need-add-size Inv-loop μ-loop
 add-size c = omega (arith, bound c, c .before .before .before .loop .inv .2, c .before .before .before .loop .inv .0, c .before .before .before .before .before .before .pre .1)
-
-add-i : tie.Need-add-i Inv-loop μ-loop
-add-i c = search needs
-
-loop-less : tie.Need-loop-less Inv-loop μ-loop
-loop-less c = search needs
 
 loop-again : tie.Need-loop-again Inv-loop μ-loop
 loop-again c =
@@ -65,11 +53,11 @@ size-of-spec =
     Inv-loop
     μ-loop
     loop-holds
-    mul-record-at
+    (λ c. search needs)
     element-copy-out-record-at
-    record-at-requires
+    (λ c κs. search needs)
     add-size
-    add-i
-    loop-less
+    (λ c. search needs)
+    (λ c. search needs)
     loop-again
     returns)

@@ -22,15 +22,6 @@ abbrev μ-loop : tie.MeasureT-loop
 loop-holds : tie.Need-loop-holds Inv-loop μ-loop
 loop-holds c = (omega arith, refl)
 
-sub-last : tie.Need-sub-last Inv-loop μ-loop
-sub-last c = search needs
-
-mul-last : tie.Need-mul-last Inv-loop μ-loop
-mul-last c = search needs
-
-shared-slice-read-last : tie.Need-shared-slice-read-last Inv-loop μ-loop
-shared-slice-read-last c = search needs
-
 abbrev top : tie.After-shared-slice-known4 Inv-loop μ-loop → tie.Start Inv-loop μ-loop
 top c = c .before .before .before .before .before .before
 
@@ -53,9 +44,6 @@ add-last c = omega (arith, room c)
 numbers-at-most-requires : tie.Need-numbers-at-most-requires Inv-loop μ-loop
 numbers-at-most-requires c κs = (top c .pre .wide, omega arith, omega (arith, room c))
 
-add-numbers-at-most : tie.Need-add-numbers-at-most Inv-loop μ-loop
-add-numbers-at-most c = search needs
-
 numbers-at-most-requires-2 : tie.Need-numbers-at-most-requires-2 Inv-loop μ-loop
 numbers-at-most-requires-2 c κs =
     let e = c .before .before in
@@ -72,12 +60,6 @@ returns-2 c =
     let e = c .before .before .before .before in
     nest-out (lasts (top e)) (range (top e)) (top e .args .depth) (e .before .before .loop .d) (e .before .before .loop .inv .1) (e .before .loop-test .taken)
     (sym (c .before .before .before .numbers-at-most .ensures) ∙ c .before .before .if1 .taken) (sym (c .before .numbers-at-most2 .ensures) ∙ c .if2 .left)
-
-sub-d : tie.Need-sub-d Inv-loop μ-loop
-sub-d c = search needs
-
-loop-less : tie.Need-loop-less Inv-loop μ-loop
-loop-less c = search needs
 
 loop-again : tie.Need-loop-again Inv-loop μ-loop
 loop-again c =
@@ -98,17 +80,17 @@ nest-spec =
     Inv-loop
     μ-loop
     loop-holds
-    sub-last
-    mul-last
-    shared-slice-read-last
+    (λ c. search needs)
+    (λ c. search needs)
+    (λ c. search needs)
     cast-last
     add-last
     numbers-at-most-requires
-    add-numbers-at-most
+    (λ c. search needs)
     numbers-at-most-requires-2
     returns
     returns-2
-    sub-d
-    loop-less
+    (λ c. search needs)
+    (λ c. search needs)
     loop-again
     returns-3)

@@ -19,16 +19,10 @@ earlier m = rangeIn (now (start m .args .a)) (start m .args .p) (start m .args .
 abbrev later : tie.After-numbers-at-most → Range
 later m = rangeIn (now (start m .args .b)) (start m .args .q) (start m .args .width)
 
-numbers-at-most-requires : tie.Need-numbers-at-most-requires
-numbers-at-most-requires c κs = search needs
-
 returns : tie.Need-returns
 returns c =
     let m = c .before in
     after-first (earlier m) (later m) (sym (m .numbers-at-most .ensures) ∙ not-true _ (c .if1 .taken))
-
-numbers-at-most-requires-2 : tie.Need-numbers-at-most-requires-2
-numbers-at-most-requires-2 c κs = search needs
 
 returns-2 : tie.Need-returns-2
 returns-2 c =
@@ -36,15 +30,6 @@ returns-2 c =
     let m = i .before in
     before-first (earlier m) (later m) (sym (m .numbers-at-most .ensures) ∙ not-false _ (i .if1 .left))
     (sym (c .before .numbers-at-most2 .ensures) ∙ not-true _ (c .if2 .taken))
-
-add-numbers-at-most : tie.Need-add-numbers-at-most
-add-numbers-at-most c = search needs
-
-add-numbers-at-most-2 : tie.Need-add-numbers-at-most-2
-add-numbers-at-most-2 c = search needs
-
-numbers-at-most-requires-3 : tie.Need-numbers-at-most-requires-3
-numbers-at-most-requires-3 c κs = search needs
 
 returns-3 : tie.Need-returns-3
 returns-3 c =
@@ -57,11 +42,11 @@ pub range-after-spec : {M : Type 1} → statement M
 range-after-spec =
     tie.close
     (tie.spec
-    numbers-at-most-requires
+    (λ c κs. search needs)
     returns
-    numbers-at-most-requires-2
+    (λ c κs. search needs)
     returns-2
-    add-numbers-at-most
-    add-numbers-at-most-2
-    numbers-at-most-requires-3
+    (λ c. search needs)
+    (λ c. search needs)
+    (λ c κs. search needs)
     returns-3)

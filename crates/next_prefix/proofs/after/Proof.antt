@@ -20,15 +20,6 @@ module _ (c : tie.Start) where
   aligned : Multiple (2 ^ (c .args .free)) (c .args .start .high * 18446744073709551616 + c .args .start .low)
   aligned = of-remainder _ (c .args .free) (c .pre .0)
 
-power-of-two-requires : tie.Need-power-of-two-requires
-power-of-two-requires c κs = search needs
-
-sub-if2 : tie.Need-sub-if2
-sub-if2 c = search needs
-
-add-next : tie.Need-add-next
-add-next c = search needs
-
 returns : tie.Need-returns
 returns c = low-after 64 _ _ (low-below (c .before .before .before)) _ (c .before .before .if1 .taken) (aligned (c .before .before .before)) (c .before .power-of-two .ensures .0)
 
@@ -53,9 +44,9 @@ pub after-spec : {M : Type 1} → statement M
 after-spec =
     tie.close
     (tie.spec
-    power-of-two-requires
-    sub-if2
-    add-next
+    (λ c κs. search needs)
+    (λ c. search needs)
+    (λ c. search needs)
     returns
     add-next-2
     returns-2

@@ -5,32 +5,11 @@ use borrow.Author.Needs.{needs}
 use Rattle.next_prefix.proofs.cap.Statement.{statement}
 use Rattle.next_prefix.proofs.cap.Tie as tie
 
-add-top-bit : tie.Need-add-top-bit
-add-top-bit c = search needs
-
-top-bit-requires : tie.Need-top-bit-requires
-top-bit-requires c κs = search needs
-
 returns : tie.Need-returns
 returns c = (omega arith, top-low _ _ (c .before .if2 .taken) (c .top-bit .ensures .1))
 
-top-bit-requires-2 : tie.Need-top-bit-requires-2
-top-bit-requires-2 c κs = search needs
-
-add-result : tie.Need-add-result
-add-result c = search needs
-
 returns-2 : tie.Need-returns-2
 returns-2 c = (omega arith, top-both _ _ (c .top-bit2 .ensures .1) (c .before .before .if1 .taken))
-
-add-top-bit-2 : tie.Need-add-top-bit-2
-add-top-bit-2 c = search needs
-
-top-bit-requires-3 : tie.Need-top-bit-requires-3
-top-bit-requires-3 c κs = search needs
-
-add-result-2 : tie.Need-add-result-2
-add-result-2 c = search needs
 
 returns-3 : tie.Need-returns-3
 returns-3 c = (omega arith, top-carried _ _ (c .top-bit3 .ensures .1) (omega arith))
@@ -42,14 +21,14 @@ pub cap-spec : {M : Type 1} → statement M
 cap-spec =
     tie.close
     (tie.spec
-    add-top-bit
-    top-bit-requires
+    (λ c. search needs)
+    (λ c κs. search needs)
     returns
-    top-bit-requires-2
-    add-result
+    (λ c κs. search needs)
+    (λ c. search needs)
     returns-2
-    add-top-bit-2
-    top-bit-requires-3
-    add-result-2
+    (λ c. search needs)
+    (λ c κs. search needs)
+    (λ c. search needs)
     returns-3
     returns-4)

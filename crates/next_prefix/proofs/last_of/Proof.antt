@@ -14,23 +14,11 @@ module _ (c : tie.Start) where
   aligned : Multiple (2 ^ (c .args .free)) (c .args .start .high * 18446744073709551616 + c .args .start .low)
   aligned = of-remainder _ (c .args .free) (c .pre .1)
 
-power-of-two-requires : tie.Need-power-of-two-requires
-power-of-two-requires c κs = search needs
-
-sub-end : tie.Need-sub-end
-sub-end c = search needs
-
 add-end : tie.Need-add-end
 add-end c = record { fits = low-fits 64 _ _ (low-below (c .before .before)) _ (c .before .if1 .taken) (aligned (c .before .before)) (c .power-of-two .ensures .0) }
 
 returns : tie.Need-returns
 returns c = low-end 64 _ _ (low-below (c .before .before)) _ (c .before .if1 .taken) (aligned (c .before .before)) (c .power-of-two .ensures .0)
-
-power-of-two-requires-2 : tie.Need-power-of-two-requires-2
-power-of-two-requires-2 c κs = search needs
-
-sub-end-2 : tie.Need-sub-end-2
-sub-end-2 c = search needs
 
 add-end-2 : tie.Need-add-end-2
 add-end-2 c = record { fits = high-fits 64 _ _ (low-below (c .before .before .before)) _ (c .before .before .if1 .left) (aligned (c .before .before .before)) (c .power-of-two2 .ensures .0) (c .before .before .before .pre .2) }
@@ -45,12 +33,12 @@ pub last-of-spec : {M : Type 1} → statement M
 last-of-spec =
     tie.close
     (tie.spec
-    power-of-two-requires
-    sub-end
+    (λ c κs. search needs)
+    (λ c. search needs)
     add-end
     returns
-    power-of-two-requires-2
-    sub-end-2
+    (λ c κs. search needs)
+    (λ c. search needs)
     add-end-2
     returns-2
     returns-3)

@@ -15,16 +15,10 @@ use Rattle.next_prefix.proofs.prefix_at.Tie as tie
 below : (c : tie.Start) → numberOf (c .args .last) < 2 ^ 128
 below c = walk.wide {h = c .args .last .high} {l = c .args .last .low} (search needs) (search needs)
 
-trailing-zeros-requires : tie.Need-trailing-zeros-requires
-trailing-zeros-requires c κs = search needs
-
 last-of-requires : tie.Need-last-of-requires
 last-of-requires c κs =
     let z = c .trailing-zeros .ensures in
     (step.short 128 _ _ _ z (below (c .before)), step.aligned 128 _ _ _ z (below (c .before)), step.ends 128 _ _ _ z (below (c .before)) (c .before .pre))
-
-words-at-most-requires : tie.Need-words-at-most-requires
-words-at-most-requires c κs = search needs
 
 returns : tie.Need-returns
 returns c =
@@ -32,12 +26,6 @@ returns c =
     let inside = leb-true _ _ (sym (c .before .words-at-most .ensures) ∙ c .if1 .taken) in
     let start = c .before .before .before in
     (step.by-zeros 128 _ _ _ (start .trailing-zeros .ensures) (below (start .before)) (walk.ends-by end inside), end)
-
-remaining-requires : tie.Need-remaining-requires
-remaining-requires c κs = search needs
-
-cap-requires : tie.Need-cap-requires
-cap-requires c κs = search needs
 
 -- where the zeros allow more than remains
 largest : (c : tie.After-cap) → Largest (wordsRange (c .before .before .before .before .before .before .args .start) (c .before .before .before .before .before .before .args .last)) (c .cap .result)
@@ -59,11 +47,11 @@ pub prefix-at-spec : {M : Type 1} → statement M
 prefix-at-spec =
     tie.close
     (tie.spec
-    trailing-zeros-requires
+    (λ c κs. search needs)
     last-of-requires
-    words-at-most-requires
+    (λ c κs. search needs)
     returns
-    remaining-requires
-    cap-requires
+    (λ c κs. search needs)
+    (λ c κs. search needs)
     last-of-requires-2
     returns-2)

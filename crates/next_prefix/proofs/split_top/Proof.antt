@@ -13,12 +13,6 @@ low-below c = search needs
 top-bit-requires : tie.Need-top-bit-requires
 top-bit-requires c κs = low-some _ _ (c .if1 .taken) (c .before .pre)
 
-power-of-two-requires : tie.Need-power-of-two-requires
-power-of-two-requires c κs = search needs
-
-sub-below : tie.Need-sub-below
-sub-below c = search needs
-
 returns : tie.Need-returns
 returns c =
     let start = c .before .before .before in
@@ -28,15 +22,6 @@ returns c =
 
 top-bit-requires-2 : tie.Need-top-bit-requires-2
 top-bit-requires-2 c κs = omega (arith, c .if1 .left)
-
-power-of-two-requires-2 : tie.Need-power-of-two-requires-2
-power-of-two-requires-2 c κs = search needs
-
-sub-above : tie.Need-sub-above
-sub-above c = search needs
-
-add-free : tie.Need-add-free
-add-free c = search needs
 
 returns-2 : tie.Need-returns-2
 returns-2 c =
@@ -49,11 +34,11 @@ split-top-spec =
     tie.close
     (tie.spec
     top-bit-requires
-    power-of-two-requires
-    sub-below
+    (λ c κs. search needs)
+    (λ c. search needs)
     returns
     top-bit-requires-2
-    power-of-two-requires-2
-    sub-above
-    add-free
+    (λ c κs. search needs)
+    (λ c. search needs)
+    (λ c. search needs)
     returns-2)

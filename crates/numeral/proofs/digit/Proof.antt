@@ -7,9 +7,6 @@ use Rattle.numeral.specs.Numeral.{digitValue}
 use Rattle.numeral.proofs.digit.Statement.{statement}
 use Rattle.numeral.proofs.digit.Tie as tie
 
-between-requires : tie.Need-between-requires
-between-requires c κs = search needs
-
 sub-result : tie.Need-sub-result
 sub-result c = within-low (code "0") (code "9") _ (cc)
 
@@ -17,27 +14,15 @@ returns : tie.Need-returns
 unfolding digitValue
 returns c = cc
 
-between-requires-2 : tie.Need-between-requires-2
-between-requires-2 c κs = search needs
-
 sub-result-2 : tie.Need-sub-result-2
 sub-result-2 c = omega (arith, within-low (code "A") (code "F") (c .before .before .before .before .args .c) (cc))
-
-add-result : tie.Need-add-result
-add-result c = search needs
 
 returns-2 : tie.Need-returns-2
 unfolding digitValue
 returns-2 c = cc
 
-between-requires-3 : tie.Need-between-requires-3
-between-requires-3 c κs = search needs
-
 sub-result-3 : tie.Need-sub-result-3
 sub-result-3 c = omega (arith, within-low (code "a") (code "f") (c .before .before .before .before .before .before .args .c) (cc))
-
-add-result-2 : tie.Need-add-result-2
-add-result-2 c = search needs
 
 returns-3 : tie.Need-returns-3
 unfolding digitValue
@@ -51,15 +36,15 @@ pub digit-spec : {M : Type 1} → statement M
 digit-spec =
     tie.close
     (tie.spec
-    between-requires
+    (λ c κs. search needs)
     sub-result
     returns
-    between-requires-2
+    (λ c κs. search needs)
     sub-result-2
-    add-result
+    (λ c. search needs)
     returns-2
-    between-requires-3
+    (λ c κs. search needs)
     sub-result-3
-    add-result-2
+    (λ c. search needs)
     returns-3
     returns-4)

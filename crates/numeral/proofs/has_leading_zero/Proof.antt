@@ -9,11 +9,8 @@ use Rattle.numeral.proofs.has_leading_zero.Tie as tie
 returns : tie.Need-returns
 returns c = sym (zero-short _ (c .if1 .taken))
 
-shared-slice-read-result : tie.Need-shared-slice-read-result
-shared-slice-read-result c = search needs
-
 returns-2 : tie.Need-returns-2
 returns-2 c = sym (zero-first _ (omega arith))
 
 pub has-leading-zero-spec : {M : Type 1} → statement M
-has-leading-zero-spec = tie.close (tie.spec returns shared-slice-read-result returns-2)
+has-leading-zero-spec = tie.close (tie.spec returns (λ c. search needs) returns-2)

@@ -4,15 +4,9 @@ use Rattle.numeral.specs.Numeral.{decimal}
 use Rattle.numeral.proofs.read_decimal.Statement.{statement}
 use Rattle.numeral.proofs.read_decimal.Tie as tie
 
-has-leading-zero-requires : tie.Need-has-leading-zero-requires
-has-leading-zero-requires c κs = search needs
-
 returns : tie.Need-returns
 unfolding decimal
 returns c = rw (← (c .before .has-leading-zero .ensures), c .if1 .taken)
-
-read-numeral-requires : tie.Need-read-numeral-requires
-read-numeral-requires c κs = search needs
 
 returns-2 : tie.Need-returns-2
 unfolding decimal
@@ -20,4 +14,4 @@ returns-2 c = rw (← (c .before .before .has-leading-zero .ensures), c .before 
 
 pub read-decimal-spec : {M : Type 1} → statement M
 read-decimal-spec =
-    tie.close (tie.spec has-leading-zero-requires returns read-numeral-requires returns-2)
+    tie.close (tie.spec (λ c κs. search needs) returns (λ c κs. search needs) returns-2)

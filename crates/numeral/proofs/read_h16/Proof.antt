@@ -9,12 +9,9 @@ returns : tie.Need-returns
 unfolding h16
 returns c = rw (lt-leb _ _ (c .if1 .taken))
 
-read-numeral-requires : tie.Need-read-numeral-requires
-read-numeral-requires c κs = search needs
-
 returns-2 : tie.Need-returns-2
 unfolding h16
 returns-2 c = rw (le-leb _ _ (c .before .if1 .left)) (c .read-numeral .ensures)
 
 pub read-h16-spec : {M : Type 1} → statement M
-read-h16-spec = tie.close (tie.spec returns read-numeral-requires returns-2)
+read-h16-spec = tie.close (tie.spec returns (λ c κs. search needs) returns-2)

@@ -12,15 +12,6 @@ use mathlib.Core.Path.{subst}
 use Rattle.one_change.proofs.change_at.Statement.{statement}
 use Rattle.one_change.proofs.change_at.Tie as tie
 
-step-at-requires : tie.Need-step-at-requires
-step-at-requires c κs = search needs
-
-enum-known-tag : tie.Need-enum-known-tag
-enum-known-tag c = search needs
-
-enum-told : tie.Need-enum-told
-enum-told c = search needs
-
 returns : tie.Need-returns
 returns c =
     let a = c .before .before .before .before in
@@ -60,9 +51,6 @@ part-good-removal-start c = let k = c .before .before in let i = bytes-inside _ 
 part-good-removal-end : tie.Need-part-good-removal-end
 part-good-removal-end c = let k = c .before .before in let i = bytes-inside _ _ _ (k .before .before .before .step-at .ensures) _ _ _ (k .before .tag .given .1) in omega (arith, i .within)
 
-good-removal-requires : tie.Need-good-removal-requires
-good-removal-requires c κs = search needs
-
 returns-4 : tie.Need-returns-4
 returns-4 c =
     let k = c .before .before .before .before .before in
@@ -82,9 +70,9 @@ pub change-at-spec : {M : Type 1} → statement M
 change-at-spec =
     tie.close
     (tie.spec
-    step-at-requires
-    enum-known-tag
-    enum-told
+    (λ c κs. search needs)
+    (λ c. search needs)
+    (λ c. search needs)
     returns
     sub-good-record
     part-good-record-start
@@ -95,7 +83,7 @@ change-at-spec =
     sub-good-removal
     part-good-removal-start
     part-good-removal-end
-    good-removal-requires
+    (λ c κs. search needs)
     returns-4
     returns-5
     returns-6)

@@ -7,12 +7,6 @@ use Rattle.one_change.proofs.Changes.{key-length, key-range, key-handle
 use Rattle.one_change.proofs.good_key.Statement.{statement}
 use Rattle.one_change.proofs.good_key.Tie as tie
 
-width-of-requires : tie.Need-width-of-requires
-width-of-requires c κs = search needs
-
-mul-if2 : tie.Need-mul-if2
-mul-if2 c = search needs
-
 returns : tie.Need-returns
 returns c = let a = c .before .before .before .before in key-length _ _ (a .pre .0) (c .before .before .if1 .taken) (rw (c .before .width-of .ensures .0) at (c .if2 .taken))
 
@@ -28,14 +22,8 @@ returns-2 c =
     let e = c .before .before .width-of .ensures .0 in
     key-range _ _ (a .pre .0) (c .before .before .before .if1 .taken) (rw e at (c .before .if2 .left)) _ (rw e at (c .numbers-at-most .ensures))
 
-text-ok-requires : tie.Need-text-ok-requires
-text-ok-requires c κs = search needs
-
 returns-3 : tie.Need-returns-3
 returns-3 c = key-handle _ _ (c .before .before .if1 .left) (c .before .if3 .taken) _ (c .text-ok .ensures)
-
-host-ok-requires : tie.Need-host-ok-requires
-host-ok-requires c κs = search needs
 
 returns-4 : tie.Need-returns-4
 returns-4 c = let a = c .before .before .before .before in key-host _ _ (c .before .before .if1 .left) (a .pre .1) (c .before .if3 .left) _ (c .host-ok .ensures)
@@ -44,12 +32,12 @@ pub good-key-spec : {M : Type 1} → statement M
 good-key-spec =
     tie.close
     (tie.spec
-    width-of-requires
-    mul-if2
+    (λ c κs. search needs)
+    (λ c. search needs)
     returns
     numbers-at-most-requires
     returns-2
-    text-ok-requires
+    (λ c κs. search needs)
     returns-3
-    host-ok-requires
+    (λ c κs. search needs)
     returns-4)

@@ -23,18 +23,6 @@ returns-2 c = remove-low _ (some (c .before .before)) (c .if2 .taken)
 returns-3 : tie.Need-returns-3
 returns-3 c = remove-high _ (some (c .before .before .before)) (c .before .if2 .left) (c .if3 .taken)
 
-sub-good-key : tie.Need-sub-good-key
-sub-good-key c = search needs
-
-part-good-key-start : tie.Need-part-good-key-start
-part-good-key-start c = search needs
-
-part-good-key-end : tie.Need-part-good-key-end
-part-good-key-end c = search needs
-
-good-key-requires : tie.Need-good-key-requires
-good-key-requires c κs = search needs
-
 returns-4 : tie.Need-returns-4
 returns-4 c =
     let d = c .before .before in
@@ -48,8 +36,8 @@ good-removal-spec =
     shared-slice-read-tag
     returns-2
     returns-3
-    sub-good-key
-    part-good-key-start
-    part-good-key-end
-    good-key-requires
+    (λ c. search needs)
+    (λ c. search needs)
+    (λ c. search needs)
+    (λ c κs. search needs)
     returns-4)

@@ -28,24 +28,6 @@ loop-holds c = (
   refl,
 )
 
-mul-list : tie.Need-mul-list Inv-loop μ-loop
-mul-list c = search needs
-
-shared-slice-read-list : tie.Need-shared-slice-read-list Inv-loop μ-loop
-shared-slice-read-list c = search needs
-
-mul-list-2 : tie.Need-mul-list-2 Inv-loop μ-loop
-mul-list-2 c = search needs
-
-slice-write-list : tie.Need-slice-write-list Inv-loop μ-loop
-slice-write-list c = search needs
-
-add-i : tie.Need-add-i Inv-loop μ-loop
-add-i c = search needs
-
-loop-less : tie.Need-loop-less Inv-loop μ-loop
-loop-less c = search needs
-
 loop-again : tie.Need-loop-again Inv-loop μ-loop
 loop-again c =
     let a = c .before .before .before .before .args in
@@ -57,12 +39,6 @@ loop-again c =
       rw (l .inv .4) (copied-next (now (a .hits)) (now (a .list)) (l .i) (omega arith) (omega arith)),
     )
 
-cast-t15 : tie.Need-cast-t15 Inv-loop μ-loop
-cast-t15 c = search needs
-
-same-length : tie.Need-same-length Inv-loop μ-loop
-same-length c = search needs
-
 returns : tie.Need-returns Inv-loop μ-loop
 returns c =
     let a = c .before .before .before .before .args in
@@ -70,12 +46,6 @@ returns c =
     let came = c .before .before .before .if1 .came in
     let less = c .if2 .taken in
     full-reply (now (a .hits)) (now (a .list)) (l .i) (⊎-elim (λ w. omega arith) (λ w. omega arith) came) (⊎-elim (λ w. omega arith) (λ w. omega arith) came) (l .inv .4)
-
-cast-t16 : tie.Need-cast-t16 Inv-loop μ-loop
-cast-t16 c = search needs
-
-same-length-2 : tie.Need-same-length-2 Inv-loop μ-loop
-same-length-2 c = search needs
 
 returns-2 : tie.Need-returns-2 Inv-loop μ-loop
 returns-2 c =
@@ -92,16 +62,16 @@ report-spec =
     Inv-loop
     μ-loop
     loop-holds
-    mul-list
-    shared-slice-read-list
-    mul-list-2
-    slice-write-list
-    add-i
-    loop-less
+    (λ c. search needs)
+    (λ c. search needs)
+    (λ c. search needs)
+    (λ c. search needs)
+    (λ c. search needs)
+    (λ c. search needs)
     loop-again
-    cast-t15
-    same-length
+    (λ c. search needs)
+    (λ c. search needs)
     returns
-    cast-t16
-    same-length-2
+    (λ c. search needs)
+    (λ c. search needs)
     returns-2)

@@ -5,21 +5,6 @@ use borrow.Author.Needs.{needs}
 use Rattle.output.proofs.report_found.Statement.{statement}
 use Rattle.output.proofs.report_found.Tie as tie
 
-enum-known-found : tie.Need-enum-known-found
-enum-known-found c = search needs
-
-slice-aggregate-report : tie.Need-slice-aggregate-report
-slice-aggregate-report c = search needs
-
-report-requires : tie.Need-report-requires
-report-requires c κs = search needs
-
-enum-told : tie.Need-enum-told
-enum-told c = search needs
-
-same-length : tie.Need-same-length
-same-length c = search needs
-
 returns : tie.Need-returns
 returns c = rw (c .before .before .before .before .before .before .found .given .1) (c .before .before .report .ensures)
 
@@ -30,10 +15,10 @@ pub report-found-spec : {M : Type 1} → statement M
 report-found-spec =
     tie.close
     (tie.spec
-    enum-known-found
-    slice-aggregate-report
-    report-requires
-    enum-told
-    same-length
+    (λ c. search needs)
+    (λ c. search needs)
+    (λ c κs. search needs)
+    (λ c. search needs)
+    (λ c. search needs)
     returns
     returns-2)

@@ -39,9 +39,6 @@ returns-3 c =
     let a = j .before .before .before .before in
     too-many _ _ (a .pre .1) _ (a .pre .2) (omega (arith, j .before .if1 .left)) (a .pre .0 .held .good) (a .args .n) _ (j .if2 .few) (count-is (a .pre .0)) (f .first-overlap .ensures) (c .before .if3 .left) (fewer j .3 (c .if4 .taken)) (c .if4 .taken)
 
-cast-t11 : tie.Need-cast-t11
-cast-t11 c = search needs
-
 returns-4 : tie.Need-returns-4
 returns-4 c =
     let f = c .before .before in
@@ -52,4 +49,4 @@ returns-4 c =
 pub final-verdict-spec : {M : Type 1} → statement M
 final-verdict-spec =
     tie.close
-    (tie.spec returns first-overlap-requires cast-t10 returns-2 returns-3 cast-t11 returns-4)
+    (tie.spec returns first-overlap-requires cast-t10 returns-2 returns-3 (λ c. search needs) returns-4)

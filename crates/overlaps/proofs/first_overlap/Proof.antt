@@ -23,16 +23,10 @@ abbrev μ-loop : tie.MeasureT-loop
 loop-holds : tie.Need-loop-holds Inv-loop μ-loop
 loop-holds c = (omega arith, scan-start _ _ _ _ refl)
 
-mul-start : tie.Need-mul-start Inv-loop μ-loop
-mul-start c = search needs
-
 element-copy-out-start : tie.Need-element-copy-out-start Inv-loop μ-loop
 element-copy-out-start c =
     let a = c .before .before .before .before in
     omega (arith, c .loop-test .taken, a .pre .1)
-
-record-at-requires : tie.Need-record-at-requires Inv-loop μ-loop
-record-at-requires c κs = search needs
 
 nest-after-requires : tie.Need-nest-after-requires Inv-loop μ-loop
 nest-after-requires c κs =
@@ -43,9 +37,6 @@ nest-after-requires c κs =
       subst Recorded (sym e) (whole (a .pre .0) (i .before .loop .inv .1) (omega (arith, i .loop-test .taken, a .pre .2))),
       λ f b. open-blocks (a .pre .0) (i .before .loop .inv .1) (omega (arith, i .loop-test .taken, a .pre .2)) (f ∙ ap (λ (s : List ℕ). parsedFrom s .tag) e) b,
     )
-
-enum-known-d : tie.Need-enum-known-d Inv-loop μ-loop
-enum-known-d c = search needs
 
 nested : (p : tie.After-nest-after Inv-loop μ-loop) → p .nest-after .result ≡ nestIn (openLast (now (p .before .before .before .before .before .before .before .before .args .image)) (now (p .before .before .before .before .before .before .before .before .args .changes)) (p .before .before .before .before .before .loop .stack)) (p .before .before .before .before .before .loop .family)
     (parsedFrom (bytesAt (now (p .before .before .before .before .before .before .before .before .args .image)) (now (p .before .before .before .before .before .before .before .before .args .changes)) (getD (now (p .before .before .before .before .before .before .before .before .args .index)) (p .before .before .before .before .before .loop .i) 0)))
@@ -75,12 +66,6 @@ shared-slice-read-family c =
     let w = known _ (whole (a .pre .0) (i .before .loop .inv .1) (omega (arith, i .loop-test .taken, a .pre .2))) in
     omega (arith, ap length (d .before .before .before .before .record-at .ensures), w .long)
 
-add-i : tie.Need-add-i Inv-loop μ-loop
-add-i c = search needs
-
-loop-less : tie.Need-loop-less Inv-loop μ-loop
-loop-less c = search needs
-
 loop-again : tie.Need-loop-again Inv-loop μ-loop
 loop-again c =
     let d = c .before .before in
@@ -91,9 +76,6 @@ loop-again c =
       omega (arith, i .loop-test .taken),
       scan-on (a .pre .0) (i .before .loop .inv .1) (omega (arith, i .loop-test .taken, a .pre .2)) (omega (arith, i .loop-test .taken, a .pre .1)) _ (nested (d .before .before)) _ (d .d .given .1) _ (ap (λ (s : List ℕ). getD s 0 0) e ∙ w .tag-is),
     )
-
-enum-told : tie.Need-enum-told Inv-loop μ-loop
-enum-told c = search needs
 
 returns : tie.Need-returns Inv-loop μ-loop
 returns c =
@@ -114,18 +96,18 @@ first-overlap-spec =
     Inv-loop
     μ-loop
     loop-holds
-    mul-start
+    (λ c. search needs)
     element-copy-out-start
-    record-at-requires
+    (λ c κs. search needs)
     nest-after-requires
-    enum-known-d
+    (λ c. search needs)
     mul-stack
     array-write-stack
     add-depth
     shared-slice-read-family
-    add-i
-    loop-less
+    (λ c. search needs)
+    (λ c. search needs)
     loop-again
-    enum-told
+    (λ c. search needs)
     returns
     returns-2)

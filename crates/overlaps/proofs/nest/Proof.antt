@@ -10,6 +10,7 @@ use denote.Ref.{now}
 use lib.Dec.{leb}
 use Rattle.registry.specs.Tags.{widthOf}
 use Rattle.octets.specs.Positions.{Wide, numberIn}
+use Rattle.address.specs.Ranges.{Range}
 use Rattle.records.specs.Record.{rangeOf, firstOf, lastOf}
 use Rattle.nesting.proofs.Families.{wide-family}
 use Rattle.nesting.specs.Nest.{nestOf}
@@ -30,25 +31,24 @@ abbrev μ-loop : tie.MeasureT-loop
 shared-slice-read-width-of : tie.Need-shared-slice-read-width-of Inv-loop μ-loop
 shared-slice-read-width-of c = omega (arith, known _ (c .before .before .before .before .pre .whole) .long)
 
-width-of-requires : tie.Need-width-of-requires Inv-loop μ-loop
-width-of-requires c κs = search needs
-
 loop-holds : tie.Need-loop-holds Inv-loop μ-loop
 loop-holds c =
     let a = c .before .before .before .before .before in
     (omega arith, c .width-of .ensures .0 ∙ ap widthOf (known _ (a .pre .whole) .tag-is), refl)
 
-sub-record-at : tie.Need-sub-record-at Inv-loop μ-loop
-sub-record-at c = search needs
+-- Places: the loop, and the open block that is compared
 
-mul-record-at : tie.Need-mul-record-at Inv-loop μ-loop
-mul-record-at c = search needs
+abbrev call : tie.At-loop Inv-loop μ-loop → tie.Start Inv-loop μ-loop
+call l = l .before .before .before .before .before .before
+
+abbrev turn : tie.After-record-at Inv-loop μ-loop → tie.In-loop Inv-loop μ-loop
+turn c = c .before .before
+
+abbrev loop : tie.After-record-at Inv-loop μ-loop → tie.At-loop Inv-loop μ-loop
+loop c = turn c .before
 
 element-copy-out-record-at : tie.Need-element-copy-out-record-at Inv-loop μ-loop
-element-copy-out-record-at c = omega (arith, c .before .loop .inv .0, c .before .before .before .before .before .before .before .pre .few)
-
-record-at-requires : tie.Need-record-at-requires Inv-loop μ-loop
-record-at-requires c κs = search needs
+element-copy-out-record-at c = omega (arith, c .before .loop .inv .0, call (c .before) .pre .few)
 
 -- the open block that is compared
 record Open (r o x : List ℕ) (w : ℕ) : Type 0 where
@@ -70,16 +70,13 @@ open-by r x w k h l e z o q =
       last-test = λ t f. sym (f ∙ rw (last-read r k h w z, last-read x l g w y));
     })
 
-opened : (c : tie.After-record-at Inv-loop μ-loop)
-    → Open (now (c .before .before .before .before .before .before .before .before .before .args .r)) (now (c .record-at .result))
-    (bytesAt (now (c .before .before .before .before .before .before .before .before .before .args .image)) (now (c .before .before .before .before .before .before .before .before .before .args .changes))
-    (getD (now (c .before .before .before .before .before .before .before .before .before .args .stack)) (c .before .before .before .loop .d - 1) 0))
-    (c .before .before .before .before .width-of .result)
+opened : (c : tie.After-record-at Inv-loop μ-loop) → let a = call (loop c) .args in
+    Open (now (a .r)) (now (c .record-at .result)) (bytesAt (now (a .image)) (now (a .changes)) (getD (now (a .stack)) (loop c .loop .d - 1) 0)) (loop c .before .width-of .result)
 opened c =
-    let i = c .before .before in
-    let a = i .before .before .before .before .before .before .before in
-    let q = a .pre .opened (i .before .loop .d - 1) (omega (arith, i .before .loop .inv .0, i .loop-test .taken)) in
-    open-by _ _ _ (a .pre .whole) (a .pre .block) (q .0) (q .1) (i .before .loop .inv .1) _ (c .record-at .ensures)
+    let l = loop c .loop in
+    let p = call (loop c) .pre in
+    let q = p .opened (l .d - 1) (omega (arith, l .inv .0, turn c .loop-test .taken)) in
+    open-by _ _ _ (p .whole) (p .block) (q .0) (q .1) (l .inv .1) _ (c .record-at .ensures)
 
 add-numbers-at-most : tie.Need-add-numbers-at-most Inv-loop μ-loop
 add-numbers-at-most c = omega (arith, opened c .own-room)
@@ -100,46 +97,40 @@ numbers-at-most-requires-2 c κs =
     let o = opened (c .before .before) in
     (o .is-wide, omega (arith, o .own-room), omega (arith, o .room))
 
+-- the open blocks and the range, as the laws take them
+abbrev opens : tie.At-loop Inv-loop μ-loop → ℕ → ℕ
+opens l = let a = call l .args in openLast (now (a .image)) (now (a .changes)) (now (a .stack))
+
+abbrev range : tie.At-loop Inv-loop μ-loop → Range
+range l = rangeOf (parsedFrom (now (call l .args .r)))
+
 returns : tie.Need-returns Inv-loop μ-loop
 returns c =
     let x = c .before .before .before .before in
-    let i = x .before .before in
-    let a = i .before .before .before .before .before .before .before in
-    let o = opened x in
-    nest-under (openLast (now (a .args .image)) (now (a .args .changes)) (now (a .args .stack))) (rangeOf (parsedFrom (now (a .args .r)))) (a .args .depth) (i .before .loop .d) (i .before .loop .inv .2) (i .loop-test .taken)
-    (o .first-test _ (c .before .before .before .numbers-at-most .ensures) ∙ c .before .before .if1 .taken) (o .last-test _ (c .before .numbers-at-most2 .ensures) ∙ c .if2 .taken)
+    let l = loop x in
+    nest-under (opens l) (range l) (call l .args .depth) (l .loop .d) (l .loop .inv .2) (turn x .loop-test .taken)
+    (opened x .first-test _ (c .before .before .before .numbers-at-most .ensures) ∙ c .before .before .if1 .taken) (opened x .last-test _ (c .before .numbers-at-most2 .ensures) ∙ c .if2 .taken)
 
 returns-2 : tie.Need-returns-2 Inv-loop μ-loop
 returns-2 c =
     let x = c .before .before .before .before in
-    let i = x .before .before in
-    let a = i .before .before .before .before .before .before .before in
-    let o = opened x in
-    nest-out (openLast (now (a .args .image)) (now (a .args .changes)) (now (a .args .stack))) (rangeOf (parsedFrom (now (a .args .r)))) (a .args .depth) (i .before .loop .d) (i .before .loop .inv .2) (i .loop-test .taken)
-    (o .first-test _ (c .before .before .before .numbers-at-most .ensures) ∙ c .before .before .if1 .taken) (o .last-test _ (c .before .numbers-at-most2 .ensures) ∙ c .if2 .left)
-
-sub-d : tie.Need-sub-d Inv-loop μ-loop
-sub-d c = search needs
-
-loop-less : tie.Need-loop-less Inv-loop μ-loop
-loop-less c = search needs
+    let l = loop x in
+    nest-out (opens l) (range l) (call l .args .depth) (l .loop .d) (l .loop .inv .2) (turn x .loop-test .taken)
+    (opened x .first-test _ (c .before .before .before .numbers-at-most .ensures) ∙ c .before .before .if1 .taken) (opened x .last-test _ (c .before .numbers-at-most2 .ensures) ∙ c .if2 .left)
 
 loop-again : tie.Need-loop-again Inv-loop μ-loop
 loop-again c =
     let x = c .before .before in
-    let i = x .before .before in
-    let a = i .before .before .before .before .before .before .before in
-    let o = opened x in (
-      omega (arith, i .before .loop .inv .0),
-      i .before .loop .inv .1,
-      nest-on (openLast (now (a .args .image)) (now (a .args .changes)) (now (a .args .stack))) (rangeOf (parsedFrom (now (a .args .r)))) (a .args .depth) (i .before .loop .d) (i .before .loop .inv .2) (i .loop-test .taken)
-          (o .first-test _ (c .before .numbers-at-most .ensures) ∙ c .if1 .left),
+    let l = loop x in (
+      omega (arith, l .loop .inv .0),
+      l .loop .inv .1,
+      nest-on (opens l) (range l) (call l .args .depth) (l .loop .d) (l .loop .inv .2) (turn x .loop-test .taken) (opened x .first-test _ (c .before .numbers-at-most .ensures) ∙ c .if1 .left),
     )
 
 returns-3 : tie.Need-returns-3 Inv-loop μ-loop
 returns-3 c =
-    let a = c .before .before .before .before .before .before .before in
-    nest-none (openLast (now (a .args .image)) (now (a .args .changes)) (now (a .args .stack))) (rangeOf (parsedFrom (now (a .args .r)))) (a .args .depth) (c .before .loop .d) (c .before .loop .inv .2) (c .loop-test .left)
+    let l = c .before in
+    nest-none (opens l) (range l) (call l .args .depth) (l .loop .d) (l .loop .inv .2) (c .loop-test .left)
 
 pub nest-spec : {M : Type 1} → statement M
 nest-spec =
@@ -148,12 +139,12 @@ nest-spec =
     Inv-loop
     μ-loop
     shared-slice-read-width-of
-    width-of-requires
+    (λ c κs. search needs)
     loop-holds
-    sub-record-at
-    mul-record-at
+    (λ c. search needs)
+    (λ c. search needs)
     element-copy-out-record-at
-    record-at-requires
+    (λ c κs. search needs)
     add-numbers-at-most
     numbers-at-most-requires
     add-numbers-at-most-2
@@ -161,7 +152,7 @@ nest-spec =
     numbers-at-most-requires-2
     returns
     returns-2
-    sub-d
-    loop-less
+    (λ c. search needs)
+    (λ c. search needs)
     loop-again
     returns-3)

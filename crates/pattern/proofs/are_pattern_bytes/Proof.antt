@@ -21,22 +21,10 @@ abbrev μ-loop : tie.MeasureT-loop
 loop-holds : tie.Need-loop-holds Inv-loop μ-loop
 loop-holds c = (omega arith, refl)
 
-shared-slice-read-is-pattern-byte : tie.Need-shared-slice-read-is-pattern-byte Inv-loop μ-loop
-shared-slice-read-is-pattern-byte c = search needs
-
-is-pattern-byte-requires : tie.Need-is-pattern-byte-requires Inv-loop μ-loop
-is-pattern-byte-requires c κs = search needs
-
 returns : tie.Need-returns Inv-loop μ-loop
 returns c =
     let a = c .before .before .before .before .before .before .args in
     sym (every-bad (patternByte (a .text)) (now (a .s)) (c .before .before .before .before .loop .i) (omega arith) (sym (c .before .is-pattern-byte .ensures) ∙ not-true _ (c .if1 .taken))) ∙ c .before .before .before .before .loop .inv .1
-
-add-i : tie.Need-add-i Inv-loop μ-loop
-add-i c = search needs
-
-loop-less : tie.Need-loop-less Inv-loop μ-loop
-loop-less c = search needs
 
 loop-again : tie.Need-loop-again Inv-loop μ-loop
 loop-again c =
@@ -55,10 +43,10 @@ are-pattern-bytes-spec =
     Inv-loop
     μ-loop
     loop-holds
-    shared-slice-read-is-pattern-byte
-    is-pattern-byte-requires
+    (λ c. search needs)
+    (λ c κs. search needs)
     returns
-    add-i
-    loop-less
+    (λ c. search needs)
+    (λ c. search needs)
     loop-again
     returns-2)

@@ -11,38 +11,8 @@ use Rattle.pattern.specs.Pattern.{matchesForm}
 use Rattle.pattern.proofs.form_matches.Statement.{statement}
 use Rattle.pattern.proofs.form_matches.Tie as tie
 
-enum-told : tie.Need-enum-told
-enum-told c = search needs
-
-same-requires : tie.Need-same-requires
-same-requires c κs = search needs
-
-enum-known-form : tie.Need-enum-known-form
-enum-known-form c = search needs
-
 slice-aggregate-pattern-matches : tie.Need-slice-aggregate-pattern-matches
 slice-aggregate-pattern-matches c = sym (length-take-le _ _ (omega arith))
-
-add-pattern-matches : tie.Need-add-pattern-matches
-add-pattern-matches c = search needs
-
-sub-pattern-matches : tie.Need-sub-pattern-matches
-sub-pattern-matches c = search needs
-
-part-pattern-matches-start : tie.Need-part-pattern-matches-start
-part-pattern-matches-start c = search needs
-
-part-pattern-matches-end : tie.Need-part-pattern-matches-end
-part-pattern-matches-end c = search needs
-
-pattern-matches-requires : tie.Need-pattern-matches-requires
-pattern-matches-requires c κs = search needs
-
-enum-told-2 : tie.Need-enum-told-2
-enum-told-2 c = search needs
-
-enum-told-3 : tie.Need-enum-told-3
-enum-told-3 c = search needs
 
 returns : tie.Need-returns
 unfolding matchesForm
@@ -70,17 +40,17 @@ pub form-matches-spec : {M : Type 1} → statement M
 form-matches-spec =
     tie.close
     (tie.spec
-    enum-told
-    same-requires
-    enum-known-form
+    (λ c. search needs)
+    (λ c κs. search needs)
+    (λ c. search needs)
     slice-aggregate-pattern-matches
-    add-pattern-matches
-    sub-pattern-matches
-    part-pattern-matches-start
-    part-pattern-matches-end
-    pattern-matches-requires
-    enum-told-2
-    enum-told-3
+    (λ c. search needs)
+    (λ c. search needs)
+    (λ c. search needs)
+    (λ c. search needs)
+    (λ c κs. search needs)
+    (λ c. search needs)
+    (λ c. search needs)
     returns
     returns-2
     returns-3

@@ -12,9 +12,6 @@ returns : tie.Need-returns
 unfolding isPattern
 returns c = rw (lt-leb _ _ (c .if1 .taken))
 
-longest-pattern-requires : tie.Need-longest-pattern-requires
-longest-pattern-requires c κs = search needs
-
 returns-2 : tie.Need-returns-2
 unfolding isPattern
 returns-2 c =
@@ -22,9 +19,6 @@ returns-2 c =
     let n = length (now (a .s)) in
     let h : longest (a .text) < n = rw (c .before .longest-pattern .ensures) at (c .if2 .taken) in
     rw (le-leb 1 n (c .before .before .if1 .left), lt-leb n (longest (a .text)) h)
-
-are-pattern-bytes-requires : tie.Need-are-pattern-bytes-requires
-are-pattern-bytes-requires c κs = search needs
 
 returns-3 : tie.Need-returns-3
 unfolding isPattern
@@ -37,4 +31,4 @@ returns-3 c =
 pub is-pattern-spec : {M : Type 1} → statement M
 is-pattern-spec =
     tie.close
-    (tie.spec returns longest-pattern-requires returns-2 are-pattern-bytes-requires returns-3)
+    (tie.spec returns (λ c κs. search needs) returns-2 (λ c κs. search needs) returns-3)

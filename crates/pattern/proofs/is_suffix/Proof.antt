@@ -16,9 +16,6 @@ returns-2 : tie.Need-returns-2
 unfolding isSuffix
 returns-2 c = rw (lt-leb _ _ (c .before .before .if1 .left), c .before .if2 .taken, lt-leb _ _ (c .if3 .taken))
 
-shared-slice-read-result : tie.Need-shared-slice-read-result
-shared-slice-read-result c = search needs
-
 returns-3 : tie.Need-returns-3
 unfolding isSuffix
 returns-3 c = rw (lt-leb _ _ (c .before .before .before .if1 .left), c .before .before .if2 .taken, le-leb _ _ (c .before .if3 .left))
@@ -29,4 +26,4 @@ returns-4 c = rw (lt-leb _ _ (c .before .if1 .left), c .if2 .left)
 
 pub is-suffix-spec : {M : Type 1} → statement M
 is-suffix-spec =
-    tie.close (tie.spec returns returns-2 shared-slice-read-result returns-3 returns-4)
+    tie.close (tie.spec returns returns-2 (λ c. search needs) returns-3 returns-4)

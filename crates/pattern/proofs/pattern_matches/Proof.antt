@@ -23,28 +23,10 @@ returns-2 c =
 slice-aggregate-same : tie.Need-slice-aggregate-same
 slice-aggregate-same c = sym (length-take-le _ _ (omega arith))
 
-same-requires : tie.Need-same-requires
-same-requires c κs = search needs
-
 returns-3 : tie.Need-returns-3
 returns-3 c =
     let a = c .before .before .before .before .before .before .before .before .args in
     match-prefix (a .fold) (now (a .prefix)) (now (a .suffix)) (now (a .name)) (omega arith) (sym (c .before .same .ensures) ∙ not-true _ (c .if3 .taken))
-
-sub-at : tie.Need-sub-at
-sub-at c = search needs
-
-sub-same : tie.Need-sub-same
-sub-same c = search needs
-
-part-same-start : tie.Need-part-same-start
-part-same-start c = search needs
-
-part-same-end : tie.Need-part-same-end
-part-same-end c = search needs
-
-same-requires-2 : tie.Need-same-requires-2
-same-requires-2 c κs = search needs
 
 returns-4 : tie.Need-returns-4
 returns-4 c =
@@ -55,18 +37,6 @@ returns-5 : tie.Need-returns-5
 returns-5 c =
     let a = c .before .before .before .before .before .before .before .before .before .before .before .before .args in
     match-any (a .fold) (now (a .prefix)) (now (a .suffix)) (now (a .name)) (omega arith) (sym (c .before .before .before .before .before .same .ensures) ∙ not-false _ (c .before .before .before .before .if3 .left)) (sym (c .before .before .same2 .ensures) ∙ not-false _ (c .before .if4 .left)) (omega arith)
-
-sub-has-byte : tie.Need-sub-has-byte
-sub-has-byte c = search needs
-
-part-has-byte-start : tie.Need-part-has-byte-start
-part-has-byte-start c = search needs
-
-part-has-byte-end : tie.Need-part-has-byte-end
-part-has-byte-end c = search needs
-
-has-byte-requires : tie.Need-has-byte-requires
-has-byte-requires c κs = search needs
 
 returns-6 : tie.Need-returns-6
 returns-6 c =
@@ -80,17 +50,17 @@ pattern-matches-spec =
     returns
     returns-2
     slice-aggregate-same
-    same-requires
+    (λ c κs. search needs)
     returns-3
-    sub-at
-    sub-same
-    part-same-start
-    part-same-end
-    same-requires-2
+    (λ c. search needs)
+    (λ c. search needs)
+    (λ c. search needs)
+    (λ c. search needs)
+    (λ c κs. search needs)
     returns-4
     returns-5
-    sub-has-byte
-    part-has-byte-start
-    part-has-byte-end
-    has-byte-requires
+    (λ c. search needs)
+    (λ c. search needs)
+    (λ c. search needs)
+    (λ c κs. search needs)
     returns-6)

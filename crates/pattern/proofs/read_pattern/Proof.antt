@@ -6,18 +6,9 @@ use Rattle.pattern.specs.Pattern.{patternOf}
 use Rattle.pattern.proofs.read_pattern.Statement.{statement}
 use Rattle.pattern.proofs.read_pattern.Tie as tie
 
-is-pattern-requires : tie.Need-is-pattern-requires
-is-pattern-requires c κs = search needs
-
 returns : tie.Need-returns
 unfolding patternOf
 returns c = rw (sym (c .before .is-pattern .ensures) ∙ not-true (c .before .is-pattern .result) (c .if1 .taken))
-
-is-host-requires : tie.Need-is-host-requires
-is-host-requires c κs = search needs
-
-pattern-form-requires : tie.Need-pattern-form-requires
-pattern-form-requires c κs = search needs
 
 returns-2 : tie.Need-returns-2
 unfolding patternOf
@@ -26,4 +17,4 @@ returns-2 c = rw (sym (c .before .before .before .is-pattern .ensures) ∙ not-f
 pub read-pattern-spec : {M : Type 1} → statement M
 read-pattern-spec =
     tie.close
-    (tie.spec is-pattern-requires returns is-host-requires pattern-form-requires returns-2)
+    (tie.spec (λ c κs. search needs) returns (λ c κs. search needs) (λ c κs. search needs) returns-2)

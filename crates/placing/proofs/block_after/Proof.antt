@@ -6,20 +6,8 @@ use borrow.Author.Needs.{needs}
 use Rattle.placing.proofs.block_after.Statement.{statement}
 use Rattle.placing.proofs.block_after.Tie as tie
 
-range-after-requires : tie.Need-range-after-requires
-range-after-requires c κs = search needs
-
 returns : tie.Need-returns
 returns c = rw (sym (c .before .range-after .ensures) ∙ not-true _ (c .if1 .taken))
-
-nest-requires : tie.Need-nest-requires
-nest-requires c κs = search needs
-
-enum-known-d : tie.Need-enum-known-d
-enum-known-d c = search needs
-
-enum-told : tie.Need-enum-told
-enum-told c = search needs
 
 returns-2 : tie.Need-returns-2
 returns-2 c =
@@ -32,4 +20,4 @@ returns-3 c =
     (sym (c .enum-told .given .1) ∙ c .before .before .nest .ensures)
 
 pub block-after-spec : {M : Type 1} → statement M
-block-after-spec = tie.close (tie.spec range-after-requires returns nest-requires enum-known-d enum-told returns-2 returns-3)
+block-after-spec = tie.close (tie.spec (λ c κs. search needs) returns (λ c κs. search needs) (λ c. search needs) (λ c. search needs) returns-2 returns-3)

@@ -13,9 +13,6 @@ start c = c .before .before .before .before
 
 -- No blocks
 
-other-tag-requires : tie.Need-other-tag-requires
-other-tag-requires c κs = search needs
-
 returns : tie.Need-returns
 returns c = c .other-tag .ensures ∙ step-other (start (c .before .before .before) .pre) (c .before .if2 .taken)
 
@@ -35,9 +32,6 @@ returns-3 c =
     step-named (start (e .before .before) .pre) (e .if2 .left) (e .before .if1 .taken) _ (sym (c .before .named-after .ensures) ∙ c .if3 .left)
 
 -- Blocks
-
-other-tag-requires-2 : tie.Need-other-tag-requires-2
-other-tag-requires-2 c κs = search needs
 
 returns-4 : tie.Need-returns-4
 returns-4 c = c .other-tag2 .ensures ∙ step-other (start (c .before .before .before) .pre) (c .before .if4 .taken)
@@ -88,12 +82,12 @@ pub step-spec : {M : Type 1} → statement M
 step-spec =
     tie.close
     (tie.spec
-    other-tag-requires
+    (λ c κs. search needs)
     returns
     named-after-requires
     returns-2
     returns-3
-    other-tag-requires-2
+    (λ c κs. search needs)
     returns-4
     add-from
     add-start

@@ -68,38 +68,14 @@ module _ (c : tie.After-wide Inv-loop μ-loop) where
     asked = c .before .before .byte-bits .ensures;
   }
 
-sub-left : tie.Need-sub-left Inv-loop μ-loop
-sub-left c = search needs
-
 loop-holds : tie.Need-loop-holds Inv-loop μ-loop
 loop-holds c =
     let a = c .before .args in
     let z : a .bits - a .l - (a .bits - a .l) ≡ 0 = omega arith in
     (omega arith, omega arith, known (c .before) .0, λ j h. refl, rw z (omega arith), rw z)
 
-sub-i : tie.Need-sub-i Inv-loop μ-loop
-sub-i c = search needs
-
-byte-bits-requires : tie.Need-byte-bits-requires Inv-loop μ-loop
-byte-bits-requires c κs = search needs
-
-power-of-two-requires : tie.Need-power-of-two-requires Inv-loop μ-loop
-power-of-two-requires c κs = search needs
-
-array-read-wide : tie.Need-array-read-wide Inv-loop μ-loop
-array-read-wide c = search needs
-
-wide-requires : tie.Need-wide-requires Inv-loop μ-loop
-wide-requires c κs = search needs
-
-rem-if1 : tie.Need-rem-if1 Inv-loop μ-loop
-rem-if1 c = search needs
-
 returns : tie.Need-returns Inv-loop μ-loop
 returns c = low.none-ranged _ _ _ _ (low.turn-refused (turn (c .before)) (omega (arith, low-bits (c .before))))
-
-sub-last : tie.Need-sub-last Inv-loop μ-loop
-sub-last c = search needs
 
 add-last : tie.Need-add-last Inv-loop μ-loop
 add-last c = record { fits = omega (arith, low.room (k (c .before)) (c .before .wide .result) (omega arith) (c .before .wide .ensures .1) (rw (size (c .before)) at (c .if1 .left)), size (c .before)) }
@@ -109,15 +85,6 @@ cast-last c =
     rw (size (c .before)) (record {
       fits = low.room (k (c .before)) (c .before .wide .result) (omega arith) (c .before .wide .ensures .1) (rw (size (c .before)) at (c .if1 .left));
     })
-
-array-write-last : tie.Need-array-write-last Inv-loop μ-loop
-array-write-last c = search needs
-
-sub-left-2 : tie.Need-sub-left-2 Inv-loop μ-loop
-sub-left-2 c = search needs
-
-loop-less : tie.Need-loop-less Inv-loop μ-loop
-loop-less c = search needs
 
 loop-again : tie.Need-loop-again Inv-loop μ-loop
 loop-again c =
@@ -144,20 +111,20 @@ prefix-range-spec =
     (tie.spec
     Inv-loop
     μ-loop
-    sub-left
+    (λ c. search needs)
     loop-holds
-    sub-i
-    byte-bits-requires
-    power-of-two-requires
-    array-read-wide
-    wide-requires
-    rem-if1
+    (λ c. search needs)
+    (λ c κs. search needs)
+    (λ c κs. search needs)
+    (λ c. search needs)
+    (λ c κs. search needs)
+    (λ c. search needs)
     returns
-    sub-last
+    (λ c. search needs)
     add-last
     cast-last
-    array-write-last
-    sub-left-2
-    loop-less
+    (λ c. search needs)
+    (λ c. search needs)
+    (λ c. search needs)
     loop-again
     returns-2)

@@ -5,12 +5,6 @@ use borrow.Author.Needs.{needs}
 use Rattle.prefix_bytes.proofs.put_address.Statement.{statement}
 use Rattle.prefix_bytes.proofs.put_address.Tie as tie
 
-put4-requires : tie.Need-put4-requires
-put4-requires c κs = search needs
-
-same-length : tie.Need-same-length
-same-length c = search needs
-
 returns : tie.Need-returns
 returns c =
     let start = c .before .before .before .before .before .before in
@@ -20,9 +14,6 @@ returns c =
 
 put-words-requires : tie.Need-put-words-requires
 put-words-requires c κs = let w = c .before .before .before .pre .0 .1 (c .before .if1 .left) in (omega arith, omega arith)
-
-same-length-2 : tie.Need-same-length-2
-same-length-2 c = search needs
 
 returns-2 : tie.Need-returns-2
 returns-2 c =
@@ -34,4 +25,4 @@ returns-2 c =
 pub put-address-spec : {M : Type 1} → statement M
 put-address-spec =
     tie.close
-    (tie.spec put4-requires same-length returns put-words-requires same-length-2 returns-2)
+    (tie.spec (λ c κs. search needs) (λ c. search needs) returns put-words-requires (λ c. search needs) returns-2)

@@ -40,9 +40,6 @@ sub-put8 c = omega (arith, c .before .loop-test .taken, kept (c .before .before)
 part-put8-start : tie.Need-part-put8-start Inv-loop μ-loop
 part-put8-start c = omega (arith, c .before .loop-test .taken, kept (c .before .before), c .before .before .before .before .pre .1)
 
-part-put8-end : tie.Need-part-put8-end Inv-loop μ-loop
-part-put8-end c = search needs
-
 put8-requires : tie.Need-put8-requires Inv-loop μ-loop
 put8-requires c κs =
     let walk = c .before .before .before in
@@ -83,7 +80,7 @@ put-words-spec =
     mul-put8
     sub-put8
     part-put8-start
-    part-put8-end
+    (λ c. search needs)
     put8-requires
     add-i
     loop-less

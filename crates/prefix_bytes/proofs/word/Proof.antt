@@ -5,11 +5,8 @@ use borrow.Author.Needs.{needs}
 use Rattle.prefix_bytes.proofs.word.Statement.{statement}
 use Rattle.prefix_bytes.proofs.word.Tie as tie
 
-returns : tie.Need-returns
-returns c = search needs
-
 returns-2 : tie.Need-returns-2
 returns-2 c = let e : c .before .args .i ≡ 1 = omega arith in rw e
 
 pub word-spec : {M : Type 1} → statement M
-word-spec = tie.close (tie.spec returns returns-2)
+word-spec = tie.close (tie.spec (λ c. search needs) returns-2)

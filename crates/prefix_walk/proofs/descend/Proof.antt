@@ -42,12 +42,6 @@ module _ (c : tie.After-cap) where
   roomy : start .args .width + 1 ≤ length (now (start .args .out))
   roomy = omega (arith, entry-inside (nothing-entered (start .args .width) (walked (start .args .first) (start .args .last)) (now (start .args .out))) known (start .pre .2))
 
-remaining-requires : tie.Need-remaining-requires
-remaining-requires c κs = search needs
-
-cap-requires : tie.Need-cap-requires
-cap-requires c κs = search needs
-
 put-entry-requires : tie.Need-put-entry-requires
 put-entry-requires c κs =
     let o = start (c .before) .pre .0 in
@@ -57,12 +51,6 @@ last-of-requires : tie.Need-last-of-requires
 last-of-requires c κs =
     let capped = c .before .before .before .before in
     (capped .cap .ensures .0, largest capped .zeros, walk.ends-inside 128 (below (start capped)) (largest capped))
-
-words-at-most-requires : tie.Need-words-at-most-requires
-words-at-most-requires c κs = search needs
-
-same-length : tie.Need-same-length
-same-length c = search needs
 
 returns : tie.Need-returns
 returns c =
@@ -75,9 +63,6 @@ returns c =
 -- it ends before the range does
 not-yet : (c : tie.Else1) → numberOf (c .before .before .last-of .result) < numberOf (start (c .before .before .before .before .before .before .before) .args .last)
 not-yet c = leb-false _ _ (sym (c .before .words-at-most .ensures) ∙ c .if1 .left)
-
-remaining-requires-2 : tie.Need-remaining-requires-2
-remaining-requires-2 c κs = search needs
 
 after-requires : tie.Need-after-requires
 after-requires c κs =
@@ -120,9 +105,6 @@ sub-fall c = omega (arith, roomy (capped c), kept-length (first-entered c .reach
 part-fall-start : tie.Need-part-fall-start
 part-fall-start c = omega (arith, roomy (capped c), kept-length (first-entered c .reached) (start (capped c) .pre .2))
 
-part-fall-end : tie.Need-part-fall-end
-part-fall-end c = search needs
-
 fall-requires : tie.Need-fall-requires
 fall-requires c κs =
     let next = c .before in
@@ -135,9 +117,6 @@ add-result c =
     let o = start (capped next) .pre .0 in
     omega (arith, all .counted, few o, at-most-sixteen (o .wide))
 
-same-length-2 : tie.Need-same-length-2
-same-length-2 c = search needs
-
 returns-2 : tie.Need-returns-2
 returns-2 c = both-listed (first-entered (c .before .before .before .before)) (c .before .before .fall .ensures)
 
@@ -145,20 +124,20 @@ pub descend-spec : {M : Type 1} → statement M
 descend-spec =
     tie.close
     (tie.spec
-    remaining-requires
-    cap-requires
+    (λ c κs. search needs)
+    (λ c κs. search needs)
     put-entry-requires
     last-of-requires
-    words-at-most-requires
-    same-length
+    (λ c κs. search needs)
+    (λ c. search needs)
     returns
-    remaining-requires-2
+    (λ c κs. search needs)
     after-requires
     add-fall
     sub-fall
     part-fall-start
-    part-fall-end
+    (λ c. search needs)
     fall-requires
     add-result
-    same-length-2
+    (λ c. search needs)
     returns-2)

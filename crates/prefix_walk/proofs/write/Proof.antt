@@ -20,17 +20,11 @@ module _ (c : tie.After-climb) where
   inside : c .climb .result .at + length (entriesOf (start .args .width) (walked (c .climb .result .start) (start .args .last))) ≤ length (c .climb .last .1 .1 .1 .0)
   inside = rest-fits (c .climb .ensures .entered .reached) (start .pre .1)
 
-climb-requires : tie.Need-climb-requires
-climb-requires c κs = search needs
-
 sub-descend : tie.Need-sub-descend
 sub-descend c = omega (arith, inside (c .before .before))
 
 part-descend-start : tie.Need-part-descend-start
 part-descend-start c = omega (arith, inside (c .before .before))
-
-part-descend-end : tie.Need-part-descend-end
-part-descend-end c = search needs
 
 descend-requires : tie.Need-descend-requires
 descend-requires c κs =
@@ -47,9 +41,6 @@ add-result c =
     let all = both-listed (c .before .before .before .before .before .before .before .climb .ensures .entered) (c .before .before .before .descend .ensures) in
     omega (arith, all .counted, few (s .pre .0), at-most-sixteen (s .pre .0 .wide))
 
-same-length : tie.Need-same-length
-same-length c = search needs
-
 returns : tie.Need-returns
 returns c = both-listed (c .before .before .before .before .before .before .before .climb .ensures .entered) (c .before .before .before .descend .ensures)
 
@@ -57,11 +48,11 @@ pub write-spec : {M : Type 1} → statement M
 write-spec =
     tie.close
     (tie.spec
-    climb-requires
+    (λ c κs. search needs)
     sub-descend
     part-descend-start
-    part-descend-end
+    (λ c. search needs)
     descend-requires
     add-result
-    same-length
+    (λ c. search needs)
     returns)

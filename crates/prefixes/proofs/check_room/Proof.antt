@@ -12,20 +12,11 @@ add-size c = omega (arith, at-most-sixteen (c .pre .wide))
 mul-if1 : tie.Need-mul-if1
 mul-if1 c = omega (arith, at-most-sixteen (c .pre .wide))
 
-sub-if1 : tie.Need-sub-if1
-sub-if1 c = search needs
-
 mul-if1-2 : tie.Need-mul-if1-2
 mul-if1-2 c = record { fits = room-fits (c .pre .wide) }
 
 returns : tie.Need-returns
 returns c = let a = c .before in ample (a .pre) (c .if1 .taken)
-
-count-requires : tie.Need-count-requires
-count-requires c κs = search needs
-
-cast-if2 : tie.Need-cast-if2
-cast-if2 c = search needs
 
 mul-if2 : tie.Need-mul-if2
 mul-if2 c = record { fits = product-fits (c .before .before .pre) (c .count .ensures) }
@@ -42,11 +33,11 @@ check-room-spec =
     (tie.spec
     add-size
     mul-if1
-    sub-if1
+    (λ c. search needs)
     mul-if1-2
     returns
-    count-requires
-    cast-if2
+    (λ c κs. search needs)
+    (λ c. search needs)
     mul-if2
     returns-2
     returns-3)

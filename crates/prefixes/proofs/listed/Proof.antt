@@ -37,15 +37,6 @@ module _ (c : tie.After-words-at2) where
   in-order : numberOf first ≤ numberOf last → Ordered (start .args .width) first last
   in-order = ordered (now (start .args .range)) (start .args .width) (start .pre .1) first last (c .before .words-at .ensures) (c .words-at2 .ensures) (start .pre .0) bytes
 
-words-at-requires : tie.Need-words-at-requires
-words-at-requires c κs = search needs
-
-words-at-requires-2 : tie.Need-words-at-requires-2
-words-at-requires-2 c κs = search needs
-
-words-at-most-requires : tie.Need-words-at-most-requires
-words-at-most-requires c κs = search needs
-
 returns : tie.Need-returns
 returns c =
     let read = c .before .before in
@@ -57,12 +48,6 @@ forward c = in-order (c .before .before) (leb-true _ _ (sym (c .before .words-at
 
 check-room-requires : tie.Need-check-room-requires
 check-room-requires c κs = forward c
-
-enum-known-needed : tie.Need-enum-known-needed
-enum-known-needed c = search needs
-
-enum-told : tie.Need-enum-told
-enum-told c = search needs
 
 write-requires : tie.Need-write-requires
 write-requires c κs =
@@ -77,9 +62,6 @@ returns-2 c =
     told (now (start read .args .range)) (start read .args .width) (start read .pre .1) (first read) (last read) (read .before .words-at .ensures) (read .words-at2 .ensures)
     _ (forward (room .before)) (nothing-put (entries read) (now (start read .args .out)) (short .1) (short .0))
 
-same-length : tie.Need-same-length
-same-length c = search needs
-
 returns-3 : tie.Need-returns-3
 returns-3 c =
     let room = c .before .before .before .before .before .before in
@@ -92,14 +74,14 @@ pub listed-spec : {M : Type 1} → statement M
 listed-spec =
     tie.close
     (tie.spec
-    words-at-requires
-    words-at-requires-2
-    words-at-most-requires
+    (λ c κs. search needs)
+    (λ c κs. search needs)
+    (λ c κs. search needs)
     returns
     check-room-requires
-    enum-known-needed
-    enum-told
+    (λ c. search needs)
+    (λ c. search needs)
     write-requires
     returns-2
-    same-length
+    (λ c. search needs)
     returns-3)

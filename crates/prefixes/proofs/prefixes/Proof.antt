@@ -4,20 +4,8 @@ use borrow.Author.Needs.{needs}
 use Rattle.prefixes.proofs.prefixes.Statement.{statement}
 use Rattle.prefixes.proofs.prefixes.Tie as tie
 
-listed-requires : tie.Need-listed-requires
-listed-requires c κs = search needs
-
-same-length : tie.Need-same-length
-same-length c = search needs
-
 returns : tie.Need-returns
 returns c = four _ _ _ _ (c .before .before .before .before .if1 .taken) (c .before .before .listed .ensures)
-
-listed-requires-2 : tie.Need-listed-requires-2
-listed-requires-2 c κs = search needs
-
-same-length-2 : tie.Need-same-length-2
-same-length-2 c = search needs
 
 returns-2 : tie.Need-returns-2
 returns-2 c = sixteen _ _ _ _ (c .before .before .before .before .if2 .taken) (c .before .before .listed2 .ensures)
@@ -29,10 +17,10 @@ pub prefixes-spec : {M : Type 1} → statement M
 prefixes-spec =
     tie.close
     (tie.spec
-    listed-requires
-    same-length
+    (λ c κs. search needs)
+    (λ c. search needs)
     returns
-    listed-requires-2
-    same-length-2
+    (λ c κs. search needs)
+    (λ c. search needs)
     returns-2
     returns-3)

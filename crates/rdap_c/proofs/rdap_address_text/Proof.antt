@@ -5,17 +5,8 @@ use Rattle.c_numbers.specs.Numbers.{countedNumbers}
 use Rattle.rdap_c.proofs.rdap_address_text.Statement.{statement}
 use Rattle.rdap_c.proofs.rdap_address_text.Tie as tie
 
-address-text-requires : tie.Need-address-text-requires
-address-text-requires c κs = search needs
-
-counted-numbers-requires : tie.Need-counted-numbers-requires
-counted-numbers-requires c κs = search needs
-
-same-length : tie.Need-same-length
-same-length c = search needs
-
 returns : tie.Need-returns
 returns c = let answered = c .before .before .before .address-text .ensures in (c .counted-numbers .ensures ∙ ap countedNumbers (answered .0), answered .1)
 
 pub rdap-address-text-spec : {M : Type 1} → statement M
-rdap-address-text-spec = tie.close (tie.spec address-text-requires counted-numbers-requires same-length returns)
+rdap-address-text-spec = tie.close (tie.spec (λ c κs. search needs) (λ c κs. search needs) (λ c. search needs) returns)

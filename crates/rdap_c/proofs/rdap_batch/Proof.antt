@@ -5,19 +5,10 @@ use borrow.Author.Needs.{needs}
 use Rattle.rdap_c.proofs.rdap_batch.Statement.{statement}
 use Rattle.rdap_c.proofs.rdap_batch.Tie as tie
 
-batch-requires : tie.Need-batch-requires
-batch-requires c κs = search needs
-
-numbers-requires : tie.Need-numbers-requires
-numbers-requires c κs = search needs
-
-same-length : tie.Need-same-length
-same-length c = search needs
-
 returns : tie.Need-returns
 returns c =
     let answered = c .before .before .before .batch .ensures in
     (c .numbers .ensures ∙ written answered, answered .list)
 
 pub rdap-batch-spec : {M : Type 1} → statement M
-rdap-batch-spec = tie.close (tie.spec batch-requires numbers-requires same-length returns)
+rdap-batch-spec = tie.close (tie.spec (λ c κs. search needs) (λ c κs. search needs) (λ c. search needs) returns)

@@ -13,32 +13,11 @@ Inv-loop changes offset n₀ at₀ n at = (n ≤ at) × (at ≤ length changes)
 abbrev μ-loop : tie.MeasureT-loop
 μ-loop changes offset n₀ at₀ n at = offset - at
 
-loop-holds : tie.Need-loop-holds Inv-loop μ-loop
-loop-holds c = search needs
-
-step-at-requires : tie.Need-step-at-requires Inv-loop μ-loop
-step-at-requires c κs = search needs
-
-enum-known-end : tie.Need-enum-known-end Inv-loop μ-loop
-enum-known-end c = search needs
-
-enum-told : tie.Need-enum-told Inv-loop μ-loop
-enum-told c = search needs
-
-returns : tie.Need-returns Inv-loop μ-loop
-returns c = search needs
-
-add-n : tie.Need-add-n Inv-loop μ-loop
-add-n c = search needs
-
 loop-less : tie.Need-loop-less Inv-loop μ-loop
 loop-less c = let i = bytes-inside _ _ _ (c .before .before .before .step-at .ensures) _ _ _ (c .before .end .given .1) in omega (arith, i .after, i .forward)
 
 loop-again : tie.Need-loop-again Inv-loop μ-loop
 loop-again c = let i = bytes-inside _ _ _ (c .before .before .before .step-at .ensures) _ _ _ (c .before .end .given .1) in (omega (arith, i .after, i .forward), i .within)
-
-returns-2 : tie.Need-returns-2 Inv-loop μ-loop
-returns-2 c = search needs
 
 pub number-at-spec : {M : Type 1} → statement M
 number-at-spec =
@@ -46,12 +25,12 @@ number-at-spec =
     (tie.spec
     Inv-loop
     μ-loop
-    loop-holds
-    step-at-requires
-    enum-known-end
-    enum-told
-    returns
-    add-n
+    (λ c. search needs)
+    (λ c κs. search needs)
+    (λ c. search needs)
+    (λ c. search needs)
+    (λ c. search needs)
+    (λ c. search needs)
     loop-less
     loop-again
-    returns-2)
+    (λ c. search needs))

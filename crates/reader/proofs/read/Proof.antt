@@ -4,12 +4,9 @@ use Rattle.fields.specs.Positions.{passed}
 use Rattle.reader.proofs.read.Statement.{statement}
 use Rattle.reader.proofs.read.Tie as tie
 
-field-after-requires : tie.Need-field-after-requires
-field-after-requires c κs = search needs
-
 returns : tie.Need-returns
 unfolding passed
 returns c = c .field-after .ensures
 
 pub read-spec : {M : Type 1} → statement M
-read-spec = tie.close (tie.spec field-after-requires returns)
+read-spec = tie.close (tie.spec (λ c κs. search needs) returns)

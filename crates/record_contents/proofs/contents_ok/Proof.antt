@@ -11,16 +11,10 @@ use borrow.Author.Needs.{needs}
 use Rattle.record_contents.proofs.contents_ok.Statement.{statement}
 use Rattle.record_contents.proofs.contents_ok.Tie as tie
 
-block-ok-requires : tie.Need-block-ok-requires
-block-ok-requires c κs = search needs
-
 returns : tie.Need-returns
 returns c =
     let a = c .before .before .before .before .before in
     bad-block (now (a .args .image)) (a .args .r) (a .pre .laid) (sym (c .before .block-ok .ensures) ∙ not-true _ (c .if2 .taken))
-
-texts-ok-requires : tie.Need-texts-ok-requires
-texts-ok-requires c κs = search needs
 
 -- a block was tested; another record has no range and no status
 tested : (c : tie.Joined1) → goodBlock (recordOn (now (c .before .before .before .args .image)) (c .before .before .before .args .r)) ≡ true
@@ -34,4 +28,4 @@ returns-2 c =
     c .texts-ok .ensures ∙ by-texts (now (a .args .image)) (a .args .r) (a .pre .laid) (tested (c .before))
 
 pub contents-ok-spec : {M : Type 1} → statement M
-contents-ok-spec = tie.close (tie.spec block-ok-requires returns texts-ok-requires returns-2)
+contents-ok-spec = tie.close (tie.spec (λ c κs. search needs) returns (λ c κs. search needs) returns-2)

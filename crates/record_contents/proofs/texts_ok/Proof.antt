@@ -34,9 +34,6 @@ part-handle-ok-start c = handle-forward (c .before)
 part-handle-ok-end : tie.Need-part-handle-ok-end
 part-handle-ok-end c = omega (arith, handle-end (c .before .args .r), c .before .pre .laid .handle .within)
 
-handle-ok-requires : tie.Need-handle-ok-requires
-handle-ok-requires c κs = search needs
-
 returns : tie.Need-returns
 returns c =
     let a = c .before .before .before .before in
@@ -65,7 +62,7 @@ texts-ok-spec =
     sub-handle-ok
     part-handle-ok-start
     part-handle-ok-end
-    handle-ok-requires
+    (λ c κs. search needs)
     returns
     add-name-ok
     name-ok-requires

@@ -4,9 +4,6 @@ use borrow.Author.Needs.{needs}
 use Rattle.record_defect.proofs.defect_of.Statement.{statement}
 use Rattle.record_defect.proofs.defect_of.Tie as tie
 
-is-whole-requires : tie.Need-is-whole-requires
-is-whole-requires c κs = search needs
-
 returns : tie.Need-returns
 returns c = rw (sym (c .before .is-whole .ensures) ∙ c .if1 .taken)
 
@@ -14,4 +11,4 @@ returns-2 : tie.Need-returns-2
 returns-2 c = rw (sym (c .before .is-whole .ensures) ∙ c .if1 .left)
 
 pub defect-of-spec : {M : Type 1} → statement M
-defect-of-spec = tie.close (tie.spec is-whole-requires returns returns-2)
+defect-of-spec = tie.close (tie.spec (λ c κs. search needs) returns returns-2)

@@ -22,25 +22,10 @@ module _ (c : tie.After-found) where
 slice-aggregate-enclosing : tie.Need-slice-aggregate-enclosing
 slice-aggregate-enclosing c = sym (length-take-le _ _ (c .before .before .pre))
 
-read-requires : tie.Need-read-requires
-read-requires c κs = search needs
-
-enum-known-found : tie.Need-enum-known-found
-enum-known-found c = search needs
-
-enum-told : tie.Need-enum-told
-enum-told c = search needs
-
-add-result : tie.Need-add-result
-add-result c = search needs
-
 returns : tie.Need-returns
 returns c =
     let a = c .before .before .before .before .before in
     (none-past (now (a .args .image)) (a .args .end) (a .args .tag) (a .args .at) (sym (c .before .before .read .ensures ∙ front-at _ _ _ (a .pre)) ∙ c .enum-told .given .1), omega arith)
-
-add-result-2 : tie.Need-add-result-2
-add-result-2 c = search needs
 
 returns-2 : tie.Need-returns-2
 returns-2 c =
@@ -57,11 +42,11 @@ end-at-spec =
     tie.close
     (tie.spec
     slice-aggregate-enclosing
-    read-requires
-    enum-known-found
-    enum-told
-    add-result
+    (λ c κs. search needs)
+    (λ c. search needs)
+    (λ c. search needs)
+    (λ c. search needs)
     returns
-    add-result-2
+    (λ c. search needs)
     returns-2
     returns-3)

@@ -7,43 +7,10 @@ use borrow.Author.Needs.{needs}
 use Rattle.record_defect.proofs.is_whole.Statement.{statement}
 use Rattle.record_defect.proofs.is_whole.Tie as tie
 
-end-at-requires : tie.Need-end-at-requires
-end-at-requires c κs = search needs
-
-end-at-requires-2 : tie.Need-end-at-requires-2
-end-at-requires-2 c κs = search needs
-
 returns : tie.Need-returns
 returns c =
     let a = c .before .before .before .before in
     named-is (now (a .args .image)) (a .args .tag) (a .args .start) (a .args .end) (a .pre .0) (a .pre .1) (c .before .before .if1 .taken) _ _ (c .before .end-at .ensures .0) (c .end-at2 .ensures .0)
-
-end-at-requires-3 : tie.Need-end-at-requires-3
-end-at-requires-3 c κs = search needs
-
-end-at-requires-4 : tie.Need-end-at-requires-4
-end-at-requires-4 c κs = search needs
-
-end-at-requires-5 : tie.Need-end-at-requires-5
-end-at-requires-5 c κs = search needs
-
-end-at-requires-6 : tie.Need-end-at-requires-6
-end-at-requires-6 c κs = search needs
-
-add-result : tie.Need-add-result
-add-result c = search needs
-
-width-of-requires : tie.Need-width-of-requires
-width-of-requires c κs = search needs
-
-mul-result : tie.Need-mul-result
-mul-result c = search needs
-
-add-result-2 : tie.Need-add-result-2
-add-result-2 c = search needs
-
-add-result-3 : tie.Need-add-result-3
-add-result-3 c = search needs
 
 returns-2 : tie.Need-returns-2
 returns-2 c =
@@ -55,16 +22,16 @@ pub is-whole-spec : {M : Type 1} → statement M
 is-whole-spec =
     tie.close
     (tie.spec
-    end-at-requires
-    end-at-requires-2
+    (λ c κs. search needs)
+    (λ c κs. search needs)
     returns
-    end-at-requires-3
-    end-at-requires-4
-    end-at-requires-5
-    end-at-requires-6
-    add-result
-    width-of-requires
-    mul-result
-    add-result-2
-    add-result-3
+    (λ c κs. search needs)
+    (λ c κs. search needs)
+    (λ c κs. search needs)
+    (λ c κs. search needs)
+    (λ c. search needs)
+    (λ c κs. search needs)
+    (λ c. search needs)
+    (λ c. search needs)
+    (λ c. search needs)
     returns-2)

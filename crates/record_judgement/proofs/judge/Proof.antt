@@ -29,18 +29,6 @@ returns-2 c =
     let a = c .before .before .before in
     judge-high (now (a .args .image)) (a .args .tag) (a .args .start) (a .args .end) (c .before .if1 .left) (c .if2 .taken)
 
-shape-of-requires : tie.Need-shape-of-requires
-shape-of-requires c κs = search needs
-
-enum-known-from : tie.Need-enum-known-from
-enum-known-from c = search needs
-
-enum-told : tie.Need-enum-told
-enum-told c = search needs
-
-defect-of-requires : tie.Need-defect-of-requires
-defect-of-requires c κs = search needs
-
 returns-3 : tie.Need-returns-3
 returns-3 c =
     let x = c .before .before .before in
@@ -74,10 +62,10 @@ judge-spec =
     (tie.spec
     returns
     returns-2
-    shape-of-requires
-    enum-known-from
-    enum-told
-    defect-of-requires
+    (λ c κs. search needs)
+    (λ c. search needs)
+    (λ c. search needs)
+    (λ c κs. search needs)
     returns-3
     contents-ok-requires
     returns-4

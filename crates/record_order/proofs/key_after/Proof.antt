@@ -7,27 +7,6 @@ use borrow.Author.Needs.{needs}
 use Rattle.record_order.proofs.key_after.Statement.{statement}
 use Rattle.record_order.proofs.key_after.Tie as tie
 
-sub-bytes-at-most : tie.Need-sub-bytes-at-most
-sub-bytes-at-most c = search needs
-
-part-bytes-at-most-start : tie.Need-part-bytes-at-most-start
-part-bytes-at-most-start c = search needs
-
-part-bytes-at-most-end : tie.Need-part-bytes-at-most-end
-part-bytes-at-most-end c = search needs
-
-sub-bytes-at-most-2 : tie.Need-sub-bytes-at-most-2
-sub-bytes-at-most-2 c = search needs
-
-part-bytes-at-most-start-2 : tie.Need-part-bytes-at-most-start-2
-part-bytes-at-most-start-2 c = search needs
-
-part-bytes-at-most-end-2 : tie.Need-part-bytes-at-most-end-2
-part-bytes-at-most-end-2 c = search needs
-
-bytes-at-most-requires : tie.Need-bytes-at-most-requires
-bytes-at-most-requires c κs = search needs
-
 returns : tie.Need-returns
 returns c =
     let a = c .before .before .before .before .before in
@@ -37,11 +16,11 @@ pub key-after-spec : {M : Type 1} → statement M
 key-after-spec =
     tie.close
     (tie.spec
-    sub-bytes-at-most
-    part-bytes-at-most-start
-    part-bytes-at-most-end
-    sub-bytes-at-most-2
-    part-bytes-at-most-start-2
-    part-bytes-at-most-end-2
-    bytes-at-most-requires
+    (λ c. search needs)
+    (λ c. search needs)
+    (λ c. search needs)
+    (λ c. search needs)
+    (λ c. search needs)
+    (λ c. search needs)
+    (λ c κs. search needs)
     returns)

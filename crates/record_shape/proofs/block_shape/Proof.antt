@@ -9,17 +9,11 @@ sized-shape-requires c κs =
     let a = c .before .before in
     (a .pre .0, a .pre .1, a .pre .2, a .pre .3, rw (eq-eqb _ _ (c .if1 .taken)))
 
-returns : tie.Need-returns
-returns c = search needs
-
 sized-shape-requires-2 : tie.Need-sized-shape-requires-2
 sized-shape-requires-2 c κs =
     let a = c .before .before in
     (a .pre .0, a .pre .1, a .pre .2, a .pre .3, rw (ne-eqb _ _ (c .if1 .left)))
 
-returns-2 : tie.Need-returns-2
-returns-2 c = search needs
-
 pub block-shape-spec : {M : Type 1} → statement M
 block-shape-spec =
-    tie.close (tie.spec sized-shape-requires returns sized-shape-requires-2 returns-2)
+    tie.close (tie.spec sized-shape-requires (λ c. search needs) sized-shape-requires-2 (λ c. search needs))

@@ -43,32 +43,8 @@ module _ (c : tie.After-to) where
   name : text (named handled) 0x22 (handled .middle .given .0 .0) ≡ At (c .to .given .0 .0)
   name = sym (c .before .before .step2 .ensures) ∙ c .to .given .1
 
-block-shape-requires : tie.Need-block-shape-requires
-block-shape-requires c κs = search needs
-
-returns : tie.Need-returns
-returns c = search needs
-
-step-requires : tie.Need-step-requires
-step-requires c κs = search needs
-
-enum-known-middle : tie.Need-enum-known-middle
-enum-known-middle c = search needs
-
-enum-told : tie.Need-enum-told
-enum-told c = search needs
-
 returns-2 : tie.Need-returns-2
 returns-2 c = refused (c .before .before .before) (here (sym (c .before .before .step .ensures) ∙ c .enum-told .given .1))
-
-step-requires-2 : tie.Need-step-requires-2
-step-requires-2 c κs = search needs
-
-enum-known-to : tie.Need-enum-known-to
-enum-known-to c = search needs
-
-enum-told-2 : tie.Need-enum-told-2
-enum-told-2 c = search needs
 
 returns-3 : tie.Need-returns-3
 returns-3 c =
@@ -79,9 +55,6 @@ returns-4 : tie.Need-returns-4
 returns-4 c =
     let n = c .before .before in
     refused (named (handled n)) (later (handle (handled n)) (later (name n) (over (c .if2 .taken))))
-
-add-t10 : tie.Need-add-t10
-add-t10 c = search needs
 
 returns-5 : tie.Need-returns-5
 returns-5 c =
@@ -94,16 +67,16 @@ pub shape-of-spec : {M : Type 1} → statement M
 shape-of-spec =
     tie.close
     (tie.spec
-    block-shape-requires
-    returns
-    step-requires
-    enum-known-middle
-    enum-told
+    (λ c κs. search needs)
+    (λ c. search needs)
+    (λ c κs. search needs)
+    (λ c. search needs)
+    (λ c. search needs)
     returns-2
-    step-requires-2
-    enum-known-to
-    enum-told-2
+    (λ c κs. search needs)
+    (λ c. search needs)
+    (λ c. search needs)
     returns-3
     returns-4
-    add-t10
+    (λ c. search needs)
     returns-5)

@@ -50,40 +50,13 @@ module _ (c : tie.After-to) where
   name : sought begun 0 255 0x22 (handled .middle .given .0 .0) ≡ At (c .to .given .0 .0)
   name = sym (c .before .before .step3 .ensures) ∙ c .to .given .1
 
-step-requires : tie.Need-step-requires
-step-requires c κs = search needs
-
-enum-known-at : tie.Need-enum-known-at
-enum-known-at c = search needs
-
-enum-told : tie.Need-enum-told
-enum-told c = search needs
-
 returns : tie.Need-returns
 returns c = refused (c .before .before .before .before) (here (sym (c .before .before .step .ensures) ∙ c .enum-told .given .1))
-
-step-requires-2 : tie.Need-step-requires-2
-step-requires-2 c κs = search needs
-
-enum-known-middle : tie.Need-enum-known-middle
-enum-known-middle c = search needs
-
-enum-told-2 : tie.Need-enum-told-2
-enum-told-2 c = search needs
 
 returns-2 : tie.Need-returns-2
 returns-2 c =
     let r = c .before .before .before .before in
     refused (start r) (later (range r) (here (sym (c .before .before .step2 .ensures) ∙ c .enum-told2 .given .1)))
-
-step-requires-3 : tie.Need-step-requires-3
-step-requires-3 c κs = search needs
-
-enum-known-to : tie.Need-enum-known-to
-enum-known-to c = search needs
-
-enum-told-3 : tie.Need-enum-told-3
-enum-told-3 c = search needs
 
 returns-3 : tie.Need-returns-3
 returns-3 c =
@@ -101,15 +74,6 @@ refused-3 c o = refused (begun c) (later (range (ranged (handled c))) (later (ha
 
 returns-4 : tie.Need-returns-4
 returns-4 c = refused-3 (c .before .before) (not-last _ _ _ (sub-if1 (c .before)) (c .if1 .taken))
-
-step-requires-4 : tie.Need-step-requires-4
-step-requires-4 c κs = search needs
-
-enum-told-4 : tie.Need-enum-told-4
-enum-told-4 c = search needs
-
-enum-told-5 : tie.Need-enum-told-5
-enum-told-5 c = search needs
 
 returns-5 : tie.Need-returns-5
 returns-5 c = refused-3 (c .before .before .before .before .before) (here (sym (c .before .before .step4 .ensures) ∙ c .enum-told5 .given .1))
@@ -130,23 +94,23 @@ pub sized-shape-spec : {M : Type 1} → statement M
 sized-shape-spec =
     tie.close
     (tie.spec
-    step-requires
-    enum-known-at
-    enum-told
+    (λ c κs. search needs)
+    (λ c. search needs)
+    (λ c. search needs)
     returns
-    step-requires-2
-    enum-known-middle
-    enum-told-2
+    (λ c κs. search needs)
+    (λ c. search needs)
+    (λ c. search needs)
     returns-2
-    step-requires-3
-    enum-known-to
-    enum-told-3
+    (λ c κs. search needs)
+    (λ c. search needs)
+    (λ c. search needs)
     returns-3
     sub-if1
     returns-4
-    step-requires-4
-    enum-told-4
-    enum-told-5
+    (λ c κs. search needs)
+    (λ c. search needs)
+    (λ c. search needs)
     returns-5
     add-t12
     returns-6)

@@ -10,11 +10,8 @@ use Rattle.record_shape.proofs.step.Tie as tie
 slice-aggregate-enclosing : tie.Need-slice-aggregate-enclosing
 slice-aggregate-enclosing c = sym (length-take-le _ _ (c .before .before .pre))
 
-read-to-requires : tie.Need-read-to-requires
-read-to-requires c κs = search needs
-
 returns : tie.Need-returns
 returns c = c .read-to .ensures ∙ ap (endBetween (c .before .before .before .args .low) (c .before .before .before .args .high) (c .before .before .before .args .tag)) (front-at _ _ _ (c .before .before .before .pre))
 
 pub step-spec : {M : Type 1} → statement M
-step-spec = tie.close (tie.spec slice-aggregate-enclosing read-to-requires returns)
+step-spec = tie.close (tie.spec slice-aggregate-enclosing (λ c κs. search needs) returns)

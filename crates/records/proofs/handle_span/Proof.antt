@@ -5,22 +5,13 @@ use Rattle.records.specs.Positions.{handleSpan}
 use Rattle.records.proofs.handle_span.Statement.{statement}
 use Rattle.records.proofs.handle_span.Tie as tie
 
-is-block-requires : tie.Need-is-block-requires
-is-block-requires c κs = search needs
-
-inner-span-requires : tie.Need-inner-span-requires
-inner-span-requires c κs = search needs
-
 returns : tie.Need-returns
 unfolding handleSpan
 returns c = c .inner-span .ensures ∙ rw (sym (c .before .before .is-block .ensures) ∙ c .before .if1 .taken)
-
-inner-span-requires-2 : tie.Need-inner-span-requires-2
-inner-span-requires-2 c κs = search needs
 
 returns-2 : tie.Need-returns-2
 unfolding handleSpan
 returns-2 c = c .inner-span2 .ensures ∙ rw (sym (c .before .before .is-block .ensures) ∙ c .before .if1 .left)
 
 pub handle-span-spec : {M : Type 1} → statement M
-handle-span-spec = tie.close (tie.spec is-block-requires inner-span-requires returns inner-span-requires-2 returns-2)
+handle-span-spec = tie.close (tie.spec (λ c κs. search needs) (λ c κs. search needs) returns (λ c κs. search needs) returns-2)

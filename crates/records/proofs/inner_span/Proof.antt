@@ -10,15 +10,6 @@ use Rattle.records.proofs.inner_span.Tie as tie
 slice-aggregate-enclosing : tie.Need-slice-aggregate-enclosing
 slice-aggregate-enclosing c = sym (length-take-le _ _ (c .before .before .pre))
 
-field-after-requires : tie.Need-field-after-requires
-field-after-requires c κs = search needs
-
-enum-known-start : tie.Need-enum-known-start
-enum-known-start c = search needs
-
-enum-told : tie.Need-enum-told
-enum-told c = search needs
-
 returns : tie.Need-returns
 returns c = ap spanFrom (sym (c .before .start .given .1) ∙ c .before .before .before .field-after .ensures ∙ front-after _ _ _ _ (c .before .before .before .before .before .before .pre))
 
@@ -27,4 +18,4 @@ returns-2 c = ap spanFrom (sym (c .enum-told .given .1) ∙ c .before .before .f
 
 pub inner-span-spec : {M : Type 1} → statement M
 inner-span-spec =
-    tie.close (tie.spec slice-aggregate-enclosing field-after-requires enum-known-start enum-told returns returns-2)
+    tie.close (tie.spec slice-aggregate-enclosing (λ c κs. search needs) (λ c. search needs) (λ c. search needs) returns returns-2)

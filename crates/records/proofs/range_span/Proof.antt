@@ -5,12 +5,6 @@ use Rattle.records.specs.Positions.{rangeSpan}
 use Rattle.records.proofs.range_span.Statement.{statement}
 use Rattle.records.proofs.range_span.Tie as tie
 
-is-block-requires : tie.Need-is-block-requires
-is-block-requires c κs = search needs
-
-inner-span-requires : tie.Need-inner-span-requires
-inner-span-requires c κs = search needs
-
 returns : tie.Need-returns
 unfolding rangeSpan
 returns c = c .inner-span .ensures ∙ rw (sym (c .before .before .is-block .ensures) ∙ c .before .if1 .taken)
@@ -20,4 +14,4 @@ unfolding rangeSpan
 returns-2 c = rw (sym (c .before .is-block .ensures) ∙ c .if1 .left)
 
 pub range-span-spec : {M : Type 1} → statement M
-range-span-spec = tie.close (tie.spec is-block-requires inner-span-requires returns returns-2)
+range-span-spec = tie.close (tie.spec (λ c κs. search needs) (λ c κs. search needs) returns returns-2)

@@ -3,17 +3,11 @@ use borrow.Author.Needs.{needs}
 use Rattle.relations.proofs.collect.Statement.{statement}
 use Rattle.relations.proofs.collect.Tie as tie
 
-bottom-requires : tie.Need-bottom-requires
-bottom-requires c κs = search needs
-
 returns : tie.Need-returns
 returns c = rw (c .before .before .if1 .taken) (c .bottom .ensures)
-
-children-requires : tie.Need-children-requires
-children-requires c κs = search needs
 
 returns-2 : tie.Need-returns-2
 returns-2 c = rw (c .before .before .if1 .left) (c .children .ensures)
 
 pub collect-spec : {M : Type 1} → statement M
-collect-spec = tie.close (tie.spec bottom-requires returns children-requires returns-2)
+collect-spec = tie.close (tie.spec (λ c κs. search needs) returns (λ c κs. search needs) returns-2)

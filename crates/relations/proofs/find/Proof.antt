@@ -15,11 +15,8 @@ list-found-requires c κs =
     let run = c .before .run-of .ensures in
     record { selected = record { count = _; indexed = p .0; run-of = run .2 }; one = run .1 ∙ sym (run .0); block = rw (run .0) (p .1); proper = p .2 }
 
-same-length : tie.Need-same-length
-same-length c = search needs
-
 returns : tie.Need-returns
 returns c = rw (c .before .before .before .before .run-of .ensures .0) at (c .before .before .list-found .ensures)
 
 pub find-spec : {M : Type 1} → statement M
-find-spec = tie.close (tie.spec run-of-requires list-found-requires same-length returns)
+find-spec = tie.close (tie.spec run-of-requires list-found-requires (λ c. search needs) returns)

@@ -42,9 +42,6 @@ here c =
       wide = walk c .before .width-of .ensures .0;
     }
 
-width-of-requires : tie.Need-width-of-requires Inv-loop μ-loop
-width-of-requires c κs = search needs
-
 loop-holds : tie.Need-loop-holds Inv-loop μ-loop
 loop-holds c = (omega arith, c .before .before .pre .selected .run-of .forward, rw (run-start (c .before .before .pre)))
 
@@ -63,12 +60,6 @@ strictly-inside-requires c κs = comparable (here (c .before .before))
 returns-2 : tie.Need-returns-2 Inv-loop μ-loop
 returns-2 c = let turn = c .before .before .before .before in any-found (here turn) (c .before .strictly-inside .ensures) (walk turn .loop .inv .2) (c .if3 .taken)
 
-add-i : tie.Need-add-i Inv-loop μ-loop
-add-i c = search needs
-
-loop-less : tie.Need-loop-less Inv-loop μ-loop
-loop-less c = search needs
-
 loop-again : tie.Need-loop-again Inv-loop μ-loop
 loop-again c =
     let turn = c .before .before .before .before in
@@ -83,14 +74,14 @@ any-inside-spec =
     (tie.spec
     Inv-loop
     μ-loop
-    width-of-requires
+    (λ c κs. search needs)
     loop-holds
     range-start-requires
     at-least-at-requires
     returns
     strictly-inside-requires
     returns-2
-    add-i
-    loop-less
+    (λ c. search needs)
+    (λ c. search needs)
     loop-again
     returns-3)

@@ -55,9 +55,6 @@ here c =
 abbrev last-kept : tie.At-loop Inv-loop μ-loop → ℕ
 last-kept c = let width = c .before .width-of .result in numberIn (call c .args .image .now) (c .loop .kept + width) width
 
-width-of-requires : tie.Need-width-of-requires Inv-loop μ-loop
-width-of-requires c κs = search needs
-
 loop-holds : tie.Need-loop-holds Inv-loop μ-loop
 loop-holds c =
     let q = c .before .before .pre .0 in (
@@ -97,15 +94,6 @@ mul-hits c = let k = asked-few (call (walk (c .before .before .before .before)) 
 element-write-hits : tie.Need-element-write-hits Inv-loop μ-loop
 element-write-hits c = let k = asked-few (call (walk (c .before .before .before .before)) .pre .0) in search needs
 
-add-n : tie.Need-add-n Inv-loop μ-loop
-add-n c = search needs
-
-add-i : tie.Need-add-i Inv-loop μ-loop
-add-i c = search needs
-
-loop-less : tie.Need-loop-less Inv-loop μ-loop
-loop-less c = search needs
-
 loop-again : tie.Need-loop-again Inv-loop μ-loop
 loop-again c =
     let turn = c .before .before .before .before in
@@ -135,7 +123,7 @@ children-spec =
     (tie.spec
     Inv-loop
     μ-loop
-    width-of-requires
+    (λ c κs. search needs)
     loop-holds
     range-start-requires
     at-least-at-requires
@@ -143,8 +131,8 @@ children-spec =
     keeps-requires
     mul-hits
     element-write-hits
-    add-n
-    add-i
-    loop-less
+    (λ c. search needs)
+    (λ c. search needs)
+    (λ c. search needs)
     loop-again
     returns-2)

@@ -24,15 +24,6 @@ Inv-loop image starts blocks range width strict first found₀ i₀ found i =
 abbrev μ-loop : tie.MeasureT-loop
 μ-loop image starts blocks range width strict first found₀ i₀ found i = blocks .until - i
 
-width-of-requires : tie.Need-width-of-requires Inv-loop μ-loop
-width-of-requires c κs = search needs
-
-is-strict-requires : tie.Need-is-strict-requires Inv-loop μ-loop
-is-strict-requires c κs = search needs
-
-is-first-requires : tie.Need-is-first-requires Inv-loop μ-loop
-is-first-requires c κs = search needs
-
 -- what the pass finds is what is asked
 answer : (c : tie.After-is-first Inv-loop μ-loop) → let a = c .before .before .before .before .args in
     passed (c .is-first .result) (c .before .is-strict .result) (now (a .image)) (a .blocks) (a .range) ≡ aroundIn (a .which) (blocksIn (now (a .image)) (a .blocks .low)) (numbers (a .range))
@@ -79,12 +70,6 @@ returns-2 c =
     let walk = turn .before .before .before in
     first-found (here turn) (walk .before .before .is-strict .result) (tested .surrounds .ensures) (c .before .if3 .taken) (c .if4 .taken) (walk .loop .inv .2) ∙ answer (walk .before)
 
-add-i : tie.Need-add-i Inv-loop μ-loop
-add-i c = search needs
-
-loop-less : tie.Need-loop-less Inv-loop μ-loop
-loop-less c = search needs
-
 loop-again : tie.Need-loop-again Inv-loop μ-loop
 loop-again c =
     let tested = c .before in
@@ -108,16 +93,16 @@ find-around-spec =
     (tie.spec
     Inv-loop
     μ-loop
-    width-of-requires
-    is-strict-requires
-    is-first-requires
+    (λ c κs. search needs)
+    (λ c κs. search needs)
+    (λ c κs. search needs)
     loop-holds
     range-start-requires
     at-least-at-requires
     returns
     surrounds-requires
     returns-2
-    add-i
-    loop-less
+    (λ c. search needs)
+    (λ c. search needs)
     loop-again
     returns-3)

@@ -30,20 +30,11 @@ fits c =
     let start = c .before .before .before .before in
     part-fits (c .before .loop .inv .2) (start .pre) (next-number (start .args .sep) (radix (start .args .base)) (start .args .numbers .now) (omega arith))
 
-mul-put-next : tie.Need-mul-put-next Inv-loop μ-loop
-mul-put-next c = search needs
-
-shared-slice-read-put-next : tie.Need-shared-slice-read-put-next Inv-loop μ-loop
-shared-slice-read-put-next c = search needs
-
 sub-put-next : tie.Need-sub-put-next Inv-loop μ-loop
 sub-put-next c = omega (arith, fits (c .before))
 
 part-put-next-start : tie.Need-part-put-next-start Inv-loop μ-loop
 part-put-next-start c = omega (arith, fits (c .before))
-
-part-put-next-end : tie.Need-part-put-next-end Inv-loop μ-loop
-part-put-next-end c = search needs
 
 put-next-requires : tie.Need-put-next-requires Inv-loop μ-loop
 put-next-requires c κs = rw rest-length (omega (arith, fits (c .before .before)))
@@ -52,12 +43,6 @@ add-at : tie.Need-add-at Inv-loop μ-loop
 add-at c =
     let l = c .before .before .before .before .before in
     omega (arith, fits l, kept-length (l .before .loop .inv .2) (l .before .before .before .before .pre), c .before .before .put-next .ensures .size)
-
-add-i : tie.Need-add-i Inv-loop μ-loop
-add-i c = search needs
-
-loop-less : tie.Need-loop-less Inv-loop μ-loop
-loop-less c = search needs
 
 loop-again : tie.Need-loop-again Inv-loop μ-loop
 loop-again c =
@@ -81,15 +66,15 @@ put-following-spec =
     Inv-loop
     μ-loop
     loop-holds
-    mul-put-next
-    shared-slice-read-put-next
+    (λ c. search needs)
+    (λ c. search needs)
     sub-put-next
     part-put-next-start
-    part-put-next-end
+    (λ c. search needs)
     put-next-requires
     add-at
-    add-i
-    loop-less
+    (λ c. search needs)
+    (λ c. search needs)
     loop-again
     same-length
     returns)

@@ -20,9 +20,6 @@ part-put-number-start : tie.Need-part-put-number-start
 part-put-number-start c =
     omega (arith, length-set (c .before .args .text .now) 0 (c .before .args .sep), ap length (following-one (c .before .args .sep) (radix (c .before .args .base)) (c .before .args .n)))
 
-part-put-number-end : tie.Need-part-put-number-end
-part-put-number-end c = search needs
-
 put-number-requires : tie.Need-put-number-requires
 put-number-requires c κs =
     let a = c .before .before .args in
@@ -49,7 +46,7 @@ put-next-spec =
     slice-write-text
     sub-put-number
     part-put-number-start
-    part-put-number-end
+    (λ c. search needs)
     put-number-requires
     add-result
     same-length

@@ -3,26 +3,14 @@ use borrow.Author.Needs.{needs}
 use Rattle.separated.proofs.put_number.Statement.{statement}
 use Rattle.separated.proofs.put_number.Tie as tie
 
-enum-told : tie.Need-enum-told
-enum-told c = search needs
-
 put-decimal-requires : tie.Need-put-decimal-requires
 put-decimal-requires c κs = rw (c .before .enum-told .given .1) at (c .before .before .before .before .pre)
-
-enum-told-2 : tie.Need-enum-told-2
-enum-told-2 c = search needs
 
 put-hex-requires : tie.Need-put-hex-requires
 put-hex-requires c κs = rw (c .before .enum-told2 .given .1) at (c .before .before .before .before .pre)
 
-same-length : tie.Need-same-length
-same-length c = search needs
-
 returns : tie.Need-returns
 returns c = rw (c .before .before .before .before .enum-told .given .1) (c .before .before .put-decimal .ensures)
-
-same-length-2 : tie.Need-same-length-2
-same-length-2 c = search needs
 
 returns-2 : tie.Need-returns-2
 returns-2 c = rw (c .before .before .before .before .enum-told2 .given .1) (c .before .before .put-hex .ensures)
@@ -31,11 +19,11 @@ pub put-number-spec : {M : Type 1} → statement M
 put-number-spec =
     tie.close
     (tie.spec
-    enum-told
+    (λ c. search needs)
     put-decimal-requires
-    enum-told-2
+    (λ c. search needs)
     put-hex-requires
-    same-length
+    (λ c. search needs)
     returns
-    same-length-2
+    (λ c. search needs)
     returns-2)

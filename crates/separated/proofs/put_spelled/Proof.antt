@@ -1,6 +1,10 @@
 -- The first number, and the others in the rest of the buffer, each after a separator.
+use Prim.Native.Nat.{_+_}
+use mathlib.Core.Path.{_≡_}
 use native.Mathlib.Omega.{arith}
+use lib.ListN.{length, drop}
 use Rattle.octets.proofs.Pieces.{rest-is}
+use Rattle.numeral.specs.Digits.{spelled, following}
 use Rattle.separated.specs.Base.{radix}
 use Rattle.output.proofs.Writing.{written-nothing, written-both, rest-length}
 use Rattle.separated.proofs.Following.{spelled-none, spelled-first, length-first}
@@ -13,71 +17,62 @@ returns c =
     let a = c .before .before .before .args in
     rw (spelled-none (a .sep) (radix (a .base)) (a .numbers .now) (search needs)) (written-nothing (a .text .now))
 
-shared-slice-read-put-number : tie.Need-shared-slice-read-put-number
-shared-slice-read-put-number c = search needs
-
 put-number-requires : tie.Need-put-number-requires
 put-number-requires c κs =
     let a = c .before .before .before .before .before .args in
     omega (arith, length-first (a .sep) (radix (a .base)) (a .numbers .now) (omega arith))
 
-sub-put-following : tie.Need-sub-put-following
-sub-put-following c = search needs
+-- Places: the first number put, and then the others
 
-part-put-following-start : tie.Need-part-put-following-start
-part-put-following-start c = search needs
+abbrev call : tie.After-put-number → tie.Start
+call c = c .before .before .before .before .before .before
 
-part-put-following-end : tie.Need-part-put-following-end
-part-put-following-end c = search needs
+abbrev first : tie.After-put-following → tie.After-put-number
+first c = c .before .before .before .before .before
+
+-- how long the whole is, and what the first number takes of it
+room : (c : tie.After-put-number) → let a = call c .args in
+    c .put-number .result + length (following (a .sep) (radix (a .base)) (drop 1 (a .numbers .now))) ≡ length (spelled (a .sep) (radix (a .base)) (a .numbers .now))
+room c =
+    let a = call c .args in
+    omega (arith, c .put-number .ensures .size, length-first (a .sep) (radix (a .base)) (a .numbers .now) (omega (arith, c .before .before .before .if1 .left)))
 
 sub-put-following-2 : tie.Need-sub-put-following-2
-sub-put-following-2 c =
-    let a = c .before .before .before .before .before .before .before .before .before .args in
-    omega (arith, c .before .before .before .put-number .ensures .size, length-first (a .sep) (radix (a .base)) (a .numbers .now) (omega arith))
+sub-put-following-2 c = omega (arith, room (c .before .before .before))
 
 part-put-following-start-2 : tie.Need-part-put-following-start-2
-part-put-following-start-2 c =
-    let a = c .before .before .before .before .before .before .before .before .before .args in
-    omega (arith, c .before .before .before .put-number .ensures .size, length-first (a .sep) (radix (a .base)) (a .numbers .now) (omega arith))
-
-part-put-following-end-2 : tie.Need-part-put-following-end-2
-part-put-following-end-2 c = search needs
+part-put-following-start-2 c = omega (arith, room (c .before .before .before))
 
 put-following-requires : tie.Need-put-following-requires
-put-following-requires c κs =
-    let a = c .before .before .before .before .before .before .before .before .before .before .args in
-    rw (rest-length, rest-is)
-    (omega (arith, c .before .before .before .before .put-number .ensures .size, length-first (a .sep) (radix (a .base)) (a .numbers .now) (omega arith)))
+put-following-requires c κs = rw (rest-length, rest-is) (omega (arith, room (c .before .before .before .before)))
 
 add-result : tie.Need-add-result
 add-result c =
-    let a = c .before .before .before .before .before .before .before .before .before .before .before .before .before .args in
-    let rest = rw (rest-is (a .numbers .now) 1) at (c .before .before .put-following .ensures .size) in
-    omega (arith, rest, c .before .before .before .before .before .before .before .put-number .ensures .size, length-first (a .sep) (radix (a .base)) (a .numbers .now) (omega arith))
-
-same-length : tie.Need-same-length
-same-length c = search needs
+    let others = c .before .before in
+    let rest = rw (rest-is (call (first others) .args .numbers .now) 1) at (others .put-following .ensures .size) in
+    omega (arith, rest, room (first others))
 
 returns-2 : tie.Need-returns-2
 returns-2 c =
-    let a = c .before .before .before .before .before .before .before .before .before .before .before .before .before .args in
+    let others = c .before .before in
+    let a = call (first others) .args in
     rw (spelled-first (a .sep) (radix (a .base)) (a .numbers .now) (omega arith), ← rest-is (a .numbers .now) 1)
-    (written-both (c .before .before .before .before .before .before .before .put-number .ensures) (c .before .before .put-following .ensures))
+    (written-both (first others .put-number .ensures) (others .put-following .ensures))
 
 pub put-spelled-spec : {M : Type 1} → statement M
 put-spelled-spec =
     tie.close
     (tie.spec
     returns
-    shared-slice-read-put-number
+    (λ c. search needs)
     put-number-requires
-    sub-put-following
-    part-put-following-start
-    part-put-following-end
+    (λ c. search needs)
+    (λ c. search needs)
+    (λ c. search needs)
     sub-put-following-2
     part-put-following-start-2
-    part-put-following-end-2
+    (λ c. search needs)
     put-following-requires
     add-result
-    same-length
+    (λ c. search needs)
     returns-2)

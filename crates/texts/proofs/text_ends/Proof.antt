@@ -5,17 +5,8 @@ use Rattle.texts.proofs.Texts as texts
 use Rattle.texts.proofs.text_ends.Statement.{statement}
 use Rattle.texts.proofs.text_ends.Tie as tie
 
-text-run-requires : tie.Need-text-run-requires
-text-run-requires c κs = search needs
-
-sub-text-run : tie.Need-sub-text-run
-sub-text-run c = search needs
-
-text-run-requires-2 : tie.Need-text-run-requires-2
-text-run-requires-2 c κs = search needs
-
 returns : tie.Need-returns
 returns c = rw (c .before .text-run .ensures, c .text-run2 .ensures) (texts.text-ends _ _ (omega arith) (omega arith) _ (search needs) (search needs))
 
 pub text-ends-spec : {M : Type 1} → statement M
-text-ends-spec = tie.close (tie.spec text-run-requires sub-text-run text-run-requires-2 returns)
+text-ends-spec = tie.close (tie.spec (λ c κs. search needs) (λ c. search needs) (λ c κs. search needs) returns)

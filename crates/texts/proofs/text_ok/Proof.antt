@@ -12,11 +12,8 @@ returns c = texts.text-empty _ _ (c .if1 .taken)
 returns-2 : tie.Need-returns-2
 returns-2 c = texts.text-long _ _ (c .if2 .taken)
 
-text-run-requires : tie.Need-text-run-requires
-text-run-requires c κs = search needs
-
 returns-3 : tie.Need-returns-3
 returns-3 c = c .text-run .ensures ∙ texts.text-whole _ _ (omega arith) (omega arith)
 
 pub text-ok-spec : {M : Type 1} → statement M
-text-ok-spec = tie.close (tie.spec returns returns-2 text-run-requires returns-3)
+text-ok-spec = tie.close (tie.spec returns returns-2 (λ c κs. search needs) returns-3)

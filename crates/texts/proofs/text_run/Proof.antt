@@ -18,18 +18,6 @@ loop-holds : tie.Need-loop-holds Inv-loop μ-loop
 unfolding run
 loop-holds c = (omega arith, refl)
 
-add-b : tie.Need-add-b Inv-loop μ-loop
-add-b c = search needs
-
-shared-slice-read-b : tie.Need-shared-slice-read-b Inv-loop μ-loop
-shared-slice-read-b c = search needs
-
-add-i : tie.Need-add-i Inv-loop μ-loop
-add-i c = search needs
-
-loop-less : tie.Need-loop-less Inv-loop μ-loop
-loop-less c = search needs
-
 loop-again : tie.Need-loop-again Inv-loop μ-loop
 loop-again c = (omega arith, texts.text-step _ _ _ _ _ (c .before .before .loop .inv .1))
 
@@ -45,9 +33,9 @@ text-run-spec =
     Inv-loop
     μ-loop
     loop-holds
-    add-b
-    shared-slice-read-b
-    add-i
-    loop-less
+    (λ c. search needs)
+    (λ c. search needs)
+    (λ c. search needs)
+    (λ c. search needs)
     loop-again
     returns)

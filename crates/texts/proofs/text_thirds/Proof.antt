@@ -5,22 +5,10 @@ use Rattle.texts.proofs.Texts as texts
 use Rattle.texts.proofs.text_thirds.Statement.{statement}
 use Rattle.texts.proofs.text_thirds.Tie as tie
 
-text-run-requires : tie.Need-text-run-requires
-text-run-requires c κs = search needs
-
-text-run-requires-2 : tie.Need-text-run-requires-2
-text-run-requires-2 c κs = search needs
-
-sub-text-run : tie.Need-sub-text-run
-sub-text-run c = search needs
-
-text-run-requires-3 : tie.Need-text-run-requires-3
-text-run-requires-3 c κs = search needs
-
 returns : tie.Need-returns
 returns c = rw (c .before .before .text-run .ensures, c .before .text-run2 .ensures, c .text-run3 .ensures) (texts.text-thirds _ _ (omega arith) (omega arith) _ (search needs) (search needs))
 
 pub text-thirds-spec : {M : Type 1} → statement M
 text-thirds-spec =
     tie.close
-    (tie.spec text-run-requires text-run-requires-2 sub-text-run text-run-requires-3 returns)
+    (tie.spec (λ c κs. search needs) (λ c κs. search needs) (λ c. search needs) (λ c κs. search needs) returns)

@@ -5,18 +5,6 @@ use Rattle.octets.proofs.Order.{told-first}
 use Rattle.words.proofs.bytes_at_most.Statement.{statement}
 use Rattle.words.proofs.bytes_at_most.Tie as tie
 
-compare-requires : tie.Need-compare-requires
-compare-requires c κs = search needs
-
-enum-told : tie.Need-enum-told
-enum-told c = search needs
-
-enum-told-2 : tie.Need-enum-told-2
-enum-told-2 c = search needs
-
-enum-told-3 : tie.Need-enum-told-3
-enum-told-3 c = search needs
-
 returns : tie.Need-returns
 returns c = sym (told-first _ _ (sym (c .before .before .compare .ensures) ∙ c .enum-told .given .1))
 
@@ -27,4 +15,4 @@ returns-3 : tie.Need-returns-3
 returns-3 c = sym (told-first _ _ (sym (c .before .before .compare .ensures) ∙ c .enum-told3 .given .1))
 
 pub bytes-at-most-spec : {M : Type 1} → statement M
-bytes-at-most-spec = tie.close (tie.spec compare-requires enum-told enum-told-2 enum-told-3 returns returns-2 returns-3)
+bytes-at-most-spec = tie.close (tie.spec (λ c κs. search needs) (λ c. search needs) (λ c. search needs) (λ c. search needs) returns returns-2 returns-3)

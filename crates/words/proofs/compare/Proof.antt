@@ -24,21 +24,6 @@ known c = (
   λ i h. omega (arith, c .shared-slice-known2 .given i),
 )
 
-lesser-requires : tie.Need-lesser-requires Inv-loop μ-loop
-lesser-requires c κs = search needs
-
-loop-holds : tie.Need-loop-holds Inv-loop μ-loop
-loop-holds c = search needs
-
-sub-loop : tie.Need-sub-loop Inv-loop μ-loop
-sub-loop c = search needs
-
-word8-requires : tie.Need-word8-requires Inv-loop μ-loop
-word8-requires c κs = search needs
-
-word8-requires-2 : tie.Need-word8-requires-2 Inv-loop μ-loop
-word8-requires-2 c κs = search needs
-
 returns : tie.Need-returns Inv-loop μ-loop
 returns c =
     let l = c .before .before .before .before .loop in
@@ -59,12 +44,6 @@ returns-2 c =
     words.word-greater (now (a .a)) (now (a .b)) (known k .0) (known k .1) (l .i) 8 (omega arith) (omega arith) (omega (arith, c .if2 .taken))
     ∙ l .inv .3
 
-add-i : tie.Need-add-i Inv-loop μ-loop
-add-i c = search needs
-
-loop-less : tie.Need-loop-less Inv-loop μ-loop
-loop-less c = search needs
-
 loop-again : tie.Need-loop-again Inv-loop μ-loop
 loop-again c =
     let l = c .before .before .before .before .before .loop in
@@ -80,9 +59,6 @@ loop-again c =
           ∙ l .inv .3,
     )
 
-compare-rest-requires : tie.Need-compare-rest-requires Inv-loop μ-loop
-compare-rest-requires c κs = search needs
-
 returns-3 : tie.Need-returns-3 Inv-loop μ-loop
 returns-3 c = c .compare-rest .ensures ∙ c .before .before .loop .inv .3
 
@@ -92,15 +68,15 @@ compare-spec =
     (tie.spec
     Inv-loop
     μ-loop
-    lesser-requires
-    loop-holds
-    sub-loop
-    word8-requires
-    word8-requires-2
+    (λ c κs. search needs)
+    (λ c. search needs)
+    (λ c. search needs)
+    (λ c κs. search needs)
+    (λ c κs. search needs)
     returns
     returns-2
-    add-i
-    loop-less
+    (λ c. search needs)
+    (λ c. search needs)
     loop-again
-    compare-rest-requires
+    (λ c κs. search needs)
     returns-3)

@@ -6,18 +6,9 @@ use borrow.Author.Needs.{needs}
 use Rattle.words.proofs.pair_at.Statement.{statement}
 use Rattle.words.proofs.pair_at.Tie as tie
 
-word8-requires : tie.Need-word8-requires
-word8-requires c κs = search needs
-
-add-word8 : tie.Need-add-word8
-add-word8 c = search needs
-
-word8-requires-2 : tie.Need-word8-requires-2
-word8-requires-2 c κs = search needs
-
 returns : tie.Need-returns
 returns c =
     rw (c .before .word8 .ensures, c .word82 .ensures) (sym (cut (now (c .before .before .before .args .s)) (c .before .before .before .args .at) 8 8 (c .before .before .before .pre)))
 
 pub pair-at-spec : {M : Type 1} → statement M
-pair-at-spec = tie.close (tie.spec word8-requires add-word8 word8-requires-2 returns)
+pair-at-spec = tie.close (tie.spec (λ c κs. search needs) (λ c. search needs) (λ c κs. search needs) returns)

@@ -8,13 +8,10 @@ use borrow.Author.Needs.{needs}
 use Rattle.words.proofs.power_of_two.Statement.{statement}
 use Rattle.words.proofs.power_of_two.Tie as tie
 
-shl-result : tie.Need-shl-result
-shl-result c = search needs
-
 returns : tie.Need-returns
 returns c =
     let e = shl-exact {a = 1} 1 (c .args .k) 64 (omega arith) (omega arith) ∙ one-mul (2 ^ c .args .k) in
     (e, omega (arith, pow-pos (c .args .k)))
 
 pub power-of-two-spec : {M : Type 1} → statement M
-power-of-two-spec = tie.close (tie.spec shl-result returns)
+power-of-two-spec = tie.close (tie.spec (λ c. search needs) returns)

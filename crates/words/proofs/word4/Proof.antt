@@ -7,12 +7,6 @@ use borrow.Author.Needs.{needs}
 use Rattle.words.proofs.word4.Statement.{statement}
 use Rattle.words.proofs.word4.Tie as tie
 
-low4-requires : tie.Need-low4-requires
-low4-requires c κs = search needs
-
-swap4-requires : tie.Need-swap4-requires
-swap4-requires c κs = search needs
-
 returns : tie.Need-returns
 returns c = (
   c .swap4 .ensures .0 ∙ ap swap4Of (c .before .low4 .ensures .0)
@@ -21,4 +15,4 @@ returns c = (
 )
 
 pub word4-spec : {M : Type 1} → statement M
-word4-spec = tie.close (tie.spec low4-requires swap4-requires returns)
+word4-spec = tie.close (tie.spec (λ c κs. search needs) (λ c κs. search needs) returns)

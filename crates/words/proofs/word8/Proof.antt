@@ -6,21 +6,6 @@ use borrow.Author.Needs.{needs}
 use Rattle.words.proofs.word8.Statement.{statement}
 use Rattle.words.proofs.word8.Tie as tie
 
-word4-requires : tie.Need-word4-requires
-word4-requires c κs = search needs
-
-add-word4 : tie.Need-add-word4
-add-word4 c = search needs
-
-word4-requires-2 : tie.Need-word4-requires-2
-word4-requires-2 c κs = search needs
-
-mul-result : tie.Need-mul-result
-mul-result c = search needs
-
-add-result : tie.Need-add-result
-add-result c = search needs
-
 returns : tie.Need-returns
 returns c =
     let s = c .before .before .before in
@@ -28,4 +13,4 @@ returns c =
 
 pub word8-spec : {M : Type 1} → statement M
 word8-spec =
-    tie.close (tie.spec word4-requires add-word4 word4-requires-2 mul-result add-result returns)
+    tie.close (tie.spec (λ c κs. search needs) (λ c. search needs) (λ c κs. search needs) (λ c. search needs) (λ c. search needs) returns)

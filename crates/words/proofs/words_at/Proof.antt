@@ -6,9 +6,6 @@ use borrow.Author.Needs.{needs}
 use Rattle.words.proofs.words_at.Statement.{statement}
 use Rattle.words.proofs.words_at.Tie as tie
 
-word4-requires : tie.Need-word4-requires
-word4-requires c κs = search needs
-
 returns : tie.Need-returns
 returns c = zero-add (c .word4 .result) ∙ c .word4 .ensures .0 ∙ rw (c .before .if1 .taken)
 
@@ -19,4 +16,4 @@ returns-2 : tie.Need-returns-2
 returns-2 c = c .pair-at .ensures ∙ rw (c .before .before .before .pre .0 .1 (c .before .if1 .left))
 
 pub words-at-spec : {M : Type 1} → statement M
-words-at-spec = tie.close (tie.spec word4-requires returns pair-at-requires returns-2)
+words-at-spec = tie.close (tie.spec (λ c κs. search needs) returns pair-at-requires returns-2)
