@@ -86,16 +86,5 @@ returns-2 c =
 pub add-spec : {M : Type 1} → statement M
 add-spec =
     tie.close
-    (tie.spec
-    (λ c. search needs)
-    (λ c. search needs)
-    (λ c. search needs)
-    shared-slice-read-tag
-    key-of-requires
-    rank-requires
-    is-there-requires
-    returns
-    (λ c. search needs)
-    (λ c. search needs)
-    insert-at-requires
-    returns-2)
+    (tie.spec (λ c. search needs) (λ c. search needs) (λ c. search needs) shared-slice-read-tag key-of-requires rank-requires
+    is-there-requires returns (λ c. search needs) (λ c. search needs) insert-at-requires returns-2)

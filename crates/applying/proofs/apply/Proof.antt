@@ -130,23 +130,5 @@ returns-4 c =
 pub apply-spec : {M : Type 1} → statement M
 apply-spec =
     tie.close
-    (tie.spec
-    Inv-loop
-    μ-loop
-    loop-holds
-    change-at-requires
-    (λ c. search needs)
-    add-requires
-    returns
-    add-n
-    loop-less
-    loop-again
-    (λ c. search needs)
-    remove-requires
-    returns-2
-    sub-n
-    loop-less-2
-    loop-again-2
-    (λ c. search needs)
-    returns-3
-    returns-4)
+    (tie.spec Inv-loop μ-loop loop-holds change-at-requires (λ c. search needs) add-requires returns add-n loop-less loop-again
+    (λ c. search needs) remove-requires returns-2 sub-n loop-less-2 loop-again-2 (λ c. search needs) returns-3 returns-4)

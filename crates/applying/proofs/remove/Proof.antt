@@ -71,14 +71,5 @@ returns-2 c =
 pub remove-spec : {M : Type 1} → statement M
 remove-spec =
     tie.close
-    (tie.spec
-    (λ c. search needs)
-    (λ c. search needs)
-    (λ c. search needs)
-    (λ c. search needs)
-    (λ c. search needs)
-    rank-requires
-    is-there-requires
-    returns
-    remove-at-requires
-    returns-2)
+    (tie.spec (λ c. search needs) (λ c. search needs) (λ c. search needs) (λ c. search needs) (λ c. search needs) rank-requires
+    is-there-requires returns remove-at-requires returns-2)

@@ -22,11 +22,5 @@ returns c = let a = c .before .before .args in rw (c .kind-number .ensures) (fou
 pub write-head-spec : {M : Type 1} → statement M
 write-head-spec =
     tie.close
-    (tie.spec
-    (λ c. search needs)
-    slice-write-list-2
-    (λ c κs. search needs)
-    slice-write-list-3
-    (λ c. search needs)
-    (λ c. search needs)
+    (tie.spec (λ c. search needs) slice-write-list-2 (λ c κs. search needs) slice-write-list-3 (λ c. search needs) (λ c. search needs)
     returns)

@@ -99,26 +99,6 @@ returns-2 c = all-answered (c .before .loop .inv) (c .loop-test .left)
 pub answer-paths-spec : {M : Type 1} → statement M
 answer-paths-spec =
     tie.close
-    (tie.spec
-    Inv-loop
-    μ-loop
-    loop-holds
-    sub-if1
-    same-length
-    returns
-    piece-end-requires
-    sub-answer-path
-    part-answer-path-start
-    part-answer-path-end
-    mul-answer-path
-    sub-answer-path-2
-    part-answer-path-start-2
-    (λ c. search needs)
-    answer-path-requires
-    add-at
-    add-answered
-    add-start
-    loop-less
-    loop-again
-    same-length-2
-    returns-2)
+    (tie.spec Inv-loop μ-loop loop-holds sub-if1 same-length returns piece-end-requires sub-answer-path part-answer-path-start
+    part-answer-path-end mul-answer-path sub-answer-path-2 part-answer-path-start-2 (λ c. search needs) answer-path-requires add-at
+    add-answered add-start loop-less loop-again same-length-2 returns-2)

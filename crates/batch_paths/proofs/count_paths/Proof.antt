@@ -41,13 +41,4 @@ returns c =
 pub count-paths-spec : {M : Type 1} → statement M
 count-paths-spec =
     tie.close
-    (tie.spec
-    Inv-loop
-    μ-loop
-    loop-holds
-    (λ c. omega arith)
-    (λ c κs. omega arith)
-    add-start
-    loop-less
-    loop-again
-    returns)
+    (tie.spec Inv-loop μ-loop loop-holds (λ c. omega arith) (λ c κs. omega arith) add-start loop-less loop-again returns)

@@ -152,30 +152,6 @@ returns-3 c = walk-end (c .before .before .before .before .before .pre .0) (c .b
 pub children-leave-spec : {M : Type 1} → statement M
 children-leave-spec =
     tie.close
-    (tie.spec
-    Inv-loop
-    μ-loop
-    (λ c κs. search needs)
-    mul-end
-    element-copy-out-end
-    cast-end
-    add-j
-    loop-holds
-    mul-child
-    element-copy-out-child
-    cast-child
-    words-at-requires
-    (λ c κs. search needs)
-    returns
-    add-words-at
-    words-at-requires-2
-    (λ c κs. search needs)
-    returns-2
-    next-requires
-    (λ c κs. search needs)
-    mul-j
-    element-copy-out-j
-    cast-j
-    loop-less
-    loop-again
-    returns-3)
+    (tie.spec Inv-loop μ-loop (λ c κs. search needs) mul-end element-copy-out-end cast-end add-j loop-holds mul-child element-copy-out-child
+    cast-child words-at-requires (λ c κs. search needs) returns add-words-at words-at-requires-2 (λ c κs. search needs) returns-2
+    next-requires (λ c κs. search needs) mul-j element-copy-out-j cast-j loop-less loop-again returns-3)

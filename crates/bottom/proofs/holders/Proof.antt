@@ -93,18 +93,5 @@ returns c =
 pub holders-spec : {M : Type 1} → statement M
 holders-spec =
     tie.close
-    (tie.spec
-    Inv-loop
-    μ-loop
-    links-of-requires
-    loop-holds
-    leaves-gap-requires
-    cast-hits
-    add-hits
-    mul-hits
-    element-write-hits
-    add-m
-    add-i
-    (λ c. search needs)
-    loop-again
-    returns)
+    (tie.spec Inv-loop μ-loop links-of-requires loop-holds leaves-gap-requires cast-hits add-hits mul-hits element-write-hits add-m add-i
+    (λ c. search needs) loop-again returns)

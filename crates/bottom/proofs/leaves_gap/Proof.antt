@@ -64,19 +64,6 @@ returns-2 c = c .children-leave .ensures ∙ both (c .before .before .before)
 pub leaves-gap-spec : {M : Type 1} → statement M
 leaves-gap-spec =
     tie.close
-    (tie.spec
-    (λ c κs. search needs)
-    mul-start
-    element-copy-out-start
-    cast-start
-    (λ c κs. search needs)
-    add-words-at
-    words-at-requires
-    (λ c κs. search needs)
-    (λ c κs. search needs)
-    words-at-requires-2
-    (λ c κs. search needs)
-    (λ c κs. search needs)
-    returns
-    children-leave-requires
-    returns-2)
+    (tie.spec (λ c κs. search needs) mul-start element-copy-out-start cast-start (λ c κs. search needs) add-words-at words-at-requires
+    (λ c κs. search needs) (λ c κs. search needs) words-at-requires-2 (λ c κs. search needs) (λ c κs. search needs) returns
+    children-leave-requires returns-2)

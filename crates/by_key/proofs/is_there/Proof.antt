@@ -37,10 +37,4 @@ returns-2 c =
 pub is-there-spec : {M : Type 1} → statement M
 is-there-spec =
     tie.close
-    (tie.spec
-    returns
-    (λ c. search needs)
-    element-copy-out-record-at
-    (λ c κs. search needs)
-    comes-after-requires
-    returns-2)
+    (tie.spec returns (λ c. search needs) element-copy-out-record-at (λ c κs. search needs) comes-after-requires returns-2)

@@ -36,10 +36,4 @@ returns-3 c =
 pub key-after-spec : {M : Type 1} → statement M
 key-after-spec =
     tie.close
-    (tie.spec
-    returns
-    (λ c κs. search needs)
-    range-after-requires
-    returns-2
-    (λ c κs. search needs)
-    returns-3)
+    (tie.spec returns (λ c κs. search needs) range-after-requires returns-2 (λ c κs. search needs) returns-3)

@@ -46,18 +46,5 @@ returns-3 c =
 pub key-of-spec : {M : Type 1} → statement M
 key-of-spec =
     tie.close
-    (tie.spec
-    shared-slice-read-tag
-    (λ c κs. search needs)
-    (λ c. search needs)
-    (λ c. search needs)
-    (λ c. search needs)
-    (λ c. search needs)
-    part-result-end
-    returns
-    (λ c κs. search needs)
-    bytes-of-requires
-    returns-2
-    (λ c κs. search needs)
-    bytes-of-requires-2
-    returns-3)
+    (tie.spec shared-slice-read-tag (λ c κs. search needs) (λ c. search needs) (λ c. search needs) (λ c. search needs) (λ c. search needs)
+    part-result-end returns (λ c κs. search needs) bytes-of-requires returns-2 (λ c κs. search needs) bytes-of-requires-2 returns-3)

@@ -79,21 +79,6 @@ returns c = ranked-end (call (c .before) .pre .0) _ (c .before .loop .inv) (c .l
 pub rank-spec : {M : Type 1} → statement M
 rank-spec =
     tie.close
-    (tie.spec
-    Inv-loop
-    μ-loop
-    cast-high
-    loop-holds
-    (λ c κs. search needs)
-    (λ c. search needs)
-    (λ c. search needs)
-    element-copy-out-record-at
-    (λ c κs. search needs)
-    comes-before-requires
-    (λ c. search needs)
-    loop-less
-    loop-again
-    loop-less-2
-    loop-again-2
-    (λ c. search needs)
+    (tie.spec Inv-loop μ-loop cast-high loop-holds (λ c κs. search needs) (λ c. search needs) (λ c. search needs) element-copy-out-record-at
+    (λ c κs. search needs) comes-before-requires (λ c. search needs) loop-less loop-again loop-less-2 loop-again-2 (λ c. search needs)
     returns)

@@ -119,24 +119,6 @@ returns-2 c =
 pub seek-spec : {M : Type 1} → statement M
 seek-spec =
     tie.close
-    (tie.spec
-    Inv-loop
-    μ-loop
-    (λ c κs. search needs)
-    loop-holds
-    (λ c κs. search needs)
-    (λ c. search needs)
-    mul-at
-    element-copy-out-at
-    cast-at-2
-    compare-at-requires
-    (λ c. search needs)
-    add-low
-    loop-less
-    loop-again
-    (λ c. search needs)
-    returns
-    (λ c. search needs)
-    loop-less-2
-    loop-again-2
-    returns-2)
+    (tie.spec Inv-loop μ-loop (λ c κs. search needs) loop-holds (λ c κs. search needs) (λ c. search needs) mul-at element-copy-out-at
+    cast-at-2 compare-at-requires (λ c. search needs) add-low loop-less loop-again (λ c. search needs) returns (λ c. search needs)
+    loop-less-2 loop-again-2 returns-2)

@@ -83,19 +83,5 @@ returns c =
 pub collect-spec : {M : Type 1} → statement M
 collect-spec =
     tie.close
-    (tie.spec
-    Inv-loop
-    μ-loop
-    loop-holds
-    (λ c. search needs)
-    (λ c. search needs)
-    element-copy-out-at
-    cast-at-2
-    picked-requires
-    (λ c. search needs)
-    element-write-hits
-    (λ c. search needs)
-    (λ c. search needs)
-    (λ c. search needs)
-    loop-again
-    returns)
+    (tie.spec Inv-loop μ-loop loop-holds (λ c. search needs) (λ c. search needs) element-copy-out-at cast-at-2 picked-requires
+    (λ c. search needs) element-write-hits (λ c. search needs) (λ c. search needs) (λ c. search needs) loop-again returns)

@@ -19,10 +19,4 @@ returns c = reported (c .before .before .before .before .before .collect .ensure
 pub list-picked-spec : {M : Type 1} → statement M
 list-picked-spec =
     tie.close
-    (tie.spec
-    (λ c κs. search needs)
-    array-share-prefix-hits
-    slice-aggregate-report
-    report-requires
-    (λ c. search needs)
-    returns)
+    (tie.spec (λ c κs. search needs) array-share-prefix-hits slice-aggregate-report report-requires (λ c. search needs) returns)

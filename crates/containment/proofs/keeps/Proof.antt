@@ -24,10 +24,4 @@ returns-3 c = keeps-later _ _ (c .before .before .before .strictly-inside .ensur
 pub keeps-spec : {M : Type 1} → statement M
 keeps-spec =
     tie.close
-    (tie.spec
-    (λ c κs. search needs)
-    returns
-    returns-2
-    add-numbers-at-most
-    numbers-at-most-requires
-    returns-3)
+    (tie.spec (λ c κs. search needs) returns returns-2 add-numbers-at-most numbers-at-most-requires returns-3)

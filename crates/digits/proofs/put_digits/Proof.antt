@@ -75,20 +75,5 @@ returns c =
 pub put-digits-spec : {M : Type 1} → statement M
 put-digits-spec =
     tie.close
-    (tie.spec
-    Inv-loop
-    μ-loop
-    (λ c κs. search needs)
-    sub-i
-    loop-holds
-    (λ c. search needs)
-    digit-requires
-    (λ c. search needs)
-    (λ c. search needs)
-    sub-i-2
-    loop-less
-    loop-again
-    (λ c κs. search needs)
-    (λ c. search needs)
-    (λ c. search needs)
-    returns)
+    (tie.spec Inv-loop μ-loop (λ c κs. search needs) sub-i loop-holds (λ c. search needs) digit-requires (λ c. search needs)
+    (λ c. search needs) sub-i-2 loop-less loop-again (λ c κs. search needs) (λ c. search needs) (λ c. search needs) returns)

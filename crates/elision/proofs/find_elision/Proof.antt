@@ -30,13 +30,4 @@ returns-2 c = elision-end _ _ (omega arith) (c .before .loop .inv .1)
 pub find-elision-spec : {M : Type 1} → statement M
 find-elision-spec =
     tie.close
-    (tie.spec
-    Inv-loop
-    μ-loop
-    loop-holds
-    (λ c κs. search needs)
-    returns
-    (λ c. search needs)
-    (λ c. search needs)
-    loop-again
-    returns-2)
+    (tie.spec Inv-loop μ-loop loop-holds (λ c κs. search needs) returns (λ c. search needs) (λ c. search needs) loop-again returns-2)

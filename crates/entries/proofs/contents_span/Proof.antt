@@ -41,17 +41,5 @@ returns-4 c =
 pub contents-span-spec : {M : Type 1} → statement M
 contents-span-spec =
     tie.close
-    (tie.spec
-    (λ c κs. search needs)
-    (λ c. search needs)
-    (λ c. search needs)
-    returns
-    (λ c. search needs)
-    range-span-requires
-    (λ c. search needs)
-    handle-span-requires
-    (λ c. search needs)
-    name-span-requires
-    returns-2
-    returns-3
-    returns-4)
+    (tie.spec (λ c κs. search needs) (λ c. search needs) (λ c. search needs) returns (λ c. search needs) range-span-requires
+    (λ c. search needs) handle-span-requires (λ c. search needs) name-span-requires returns-2 returns-3 returns-4)

@@ -66,19 +66,5 @@ returns c = first-found (c .before .loop .inv) (c .loop-test .left)
 pub first-from-spec : {M : Type 1} → statement M
 first-from-spec =
     tie.close
-    (tie.spec
-    Inv-loop
-    μ-loop
-    loop-holds
-    (λ c κs. search needs)
-    (λ c. search needs)
-    mul-if1
-    element-copy-out-if1
-    cast-if1-2
-    shared-slice-read-if1
-    (λ c. search needs)
-    loop-less
-    loop-again
-    loop-less-2
-    loop-again-2
-    returns)
+    (tie.spec Inv-loop μ-loop loop-holds (λ c κs. search needs) (λ c. search needs) mul-if1 element-copy-out-if1 cast-if1-2
+    shared-slice-read-if1 (λ c. search needs) loop-less loop-again loop-less-2 loop-again-2 returns)

@@ -41,14 +41,5 @@ returns-3 c =
 pub part-span-spec : {M : Type 1} → statement M
 part-span-spec =
     tie.close
-    (tie.spec
-    (λ c κs. search needs)
-    (λ c. search needs)
-    (λ c. search needs)
-    returns
-    returns-2
-    (λ c. search needs)
-    array-read-contents-span
-    cast-contents-span
-    (λ c κs. search needs)
-    returns-3)
+    (tie.spec (λ c κs. search needs) (λ c. search needs) (λ c. search needs) returns returns-2 (λ c. search needs) array-read-contents-span
+    cast-contents-span (λ c κs. search needs) returns-3)

@@ -29,26 +29,6 @@ returns-7 c = one-ends _ _ _ _ _ _ _ (omega arith) (omega arith) (omega arith) (
 pub step-to-spec : {M : Type 1} → statement M
 step-to-spec =
     tie.close
-    (tie.spec
-    returns
-    (λ c. search needs)
-    (λ c κs. search needs)
-    (λ c. search needs)
-    returns-2
-    (λ c. search needs)
-    (λ c κs. search needs)
-    (λ c. search needs)
-    (λ c. search needs)
-    (λ c κs. search needs)
-    (λ c. search needs)
-    (λ c. search needs)
-    (λ c κs. search needs)
-    returns-3
-    (λ c. search needs)
-    (λ c. search needs)
-    returns-4
-    returns-5
-    (λ c κs. search needs)
-    (λ c. search needs)
-    returns-6
-    returns-7)
+    (tie.spec returns (λ c. search needs) (λ c κs. search needs) (λ c. search needs) returns-2 (λ c. search needs) (λ c κs. search needs)
+    (λ c. search needs) (λ c. search needs) (λ c κs. search needs) (λ c. search needs) (λ c. search needs) (λ c κs. search needs) returns-3
+    (λ c. search needs) (λ c. search needs) returns-4 returns-5 (λ c κs. search needs) (λ c. search needs) returns-6 returns-7)

@@ -88,23 +88,6 @@ returns c =
 pub put-entries-spec : {M : Type 1} → statement M
 put-entries-spec =
     tie.close
-    (tie.spec
-    (λ c. search needs)
-    (λ c κs. search needs)
-    put-head-requires
-    (λ c. search needs)
-    slice-aggregate-put-rows
-    sub-put-rows
-    part-put-rows-start
-    (λ c. search needs)
-    put-rows-requires
-    add-at
-    (λ c. search needs)
-    (λ c. search needs)
-    sub-put-fixed
-    part-put-fixed-start
-    (λ c. search needs)
-    put-fixed-requires
-    add-result
-    (λ c. search needs)
-    returns)
+    (tie.spec (λ c. search needs) (λ c κs. search needs) put-head-requires (λ c. search needs) slice-aggregate-put-rows sub-put-rows
+    part-put-rows-start (λ c. search needs) put-rows-requires add-at (λ c. search needs) (λ c. search needs) sub-put-fixed
+    part-put-fixed-start (λ c. search needs) put-fixed-requires add-result (λ c. search needs) returns)

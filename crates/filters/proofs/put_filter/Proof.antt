@@ -72,19 +72,6 @@ returns-4 c =
 pub put-filter-spec : {M : Type 1} → statement M
 put-filter-spec =
     tie.close
-    (tie.spec
-    returns
-    returns-2
-    (λ c. search needs)
-    (λ c κs. search needs)
-    returns-3
-    (λ c. search needs)
-    (λ c κs. search needs)
-    (λ c. search needs)
-    (λ c κs. search needs)
-    array-share-prefix-name
-    slice-aggregate-put-entries
-    (λ c. search needs)
-    put-entries-requires
-    (λ c. search needs)
-    returns-4)
+    (tie.spec returns returns-2 (λ c. search needs) (λ c κs. search needs) returns-3 (λ c. search needs) (λ c κs. search needs)
+    (λ c. search needs) (λ c κs. search needs) array-share-prefix-name slice-aggregate-put-entries (λ c. search needs) put-entries-requires
+    (λ c. search needs) returns-4)

@@ -63,19 +63,6 @@ returns c = written-both (written-both (text (slash (c .before .before)) .put-te
 pub put-prefix-spec : {M : Type 1} → statement M
 put-prefix-spec =
     tie.close
-    (tie.spec
-    put-text-requires
-    (λ c. search needs)
-    (λ c. search needs)
-    sub-put-fixed
-    part-put-fixed-start
-    (λ c. search needs)
-    put-fixed-requires
-    add-at
-    sub-put-decimal
-    part-put-decimal-start
-    (λ c. search needs)
-    put-decimal-requires
-    add-result
-    (λ c. search needs)
+    (tie.spec put-text-requires (λ c. search needs) (λ c. search needs) sub-put-fixed part-put-fixed-start (λ c. search needs)
+    put-fixed-requires add-at sub-put-decimal part-put-decimal-start (λ c. search needs) put-decimal-requires add-result (λ c. search needs)
     returns)

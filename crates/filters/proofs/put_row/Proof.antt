@@ -67,17 +67,5 @@ returns c = written-both (written-both (bytes (network (c .before .before)) .put
 pub put-row-spec : {M : Type 1} → statement M
 put-row-spec =
     tie.close
-    (tie.spec
-    put-bytes-requires
-    sub-put-prefix
-    part-put-prefix-start
-    (λ c. search needs)
-    put-prefix-requires
-    add-at
-    sub-put-end
-    part-put-end-start
-    (λ c. search needs)
-    put-end-requires
-    add-result
-    (λ c. search needs)
-    returns)
+    (tie.spec put-bytes-requires sub-put-prefix part-put-prefix-start (λ c. search needs) put-prefix-requires add-at sub-put-end
+    part-put-end-start (λ c. search needs) put-end-requires add-result (λ c. search needs) returns)

@@ -123,23 +123,6 @@ returns c =
 pub put-rows-spec : {M : Type 1} → statement M
 put-rows-spec =
     tie.close
-    (tie.spec
-    Inv-loop
-    μ-loop
-    loop-holds
-    (λ c. search needs)
-    add-end
-    sub-put-row
-    part-put-row-start
-    part-put-row-end
-    shared-slice-read-put-row
-    sub-put-row-2
-    part-put-row-start-2
-    (λ c. search needs)
-    put-row-requires
-    add-at
-    add-from
-    (λ c. omega arith)
-    loop-again
-    same-length
-    returns)
+    (tie.spec Inv-loop μ-loop loop-holds (λ c. search needs) add-end sub-put-row part-put-row-start part-put-row-end
+    shared-slice-read-put-row sub-put-row-2 part-put-row-start-2 (λ c. search needs) put-row-requires add-at add-from (λ c. omega arith)
+    loop-again same-length returns)

@@ -96,25 +96,7 @@ returns-3 c =
 pub finish-spec : {M : Type 1} → statement M
 finish-spec =
     tie.close
-    (tie.spec
-    (λ c κs. search needs)
-    (λ c. search needs)
-    final-verdict-requires
-    (λ c. search needs)
-    (λ c κs. search needs)
-    returns
-    (λ c. search needs)
-    (λ c. search needs)
-    (λ c κs. search needs)
-    returns-2
-    slice-aggregate-put-bytes
-    put-bytes-requires
-    (λ c. search needs)
-    (λ c. search needs)
-    (λ c. search needs)
-    (λ c κs. search needs)
-    add-counted
-    cast-counted-2
-    (λ c κs. search needs)
-    (λ c. search needs)
-    returns-3)
+    (tie.spec (λ c κs. search needs) (λ c. search needs) final-verdict-requires (λ c. search needs) (λ c κs. search needs) returns
+    (λ c. search needs) (λ c. search needs) (λ c κs. search needs) returns-2 slice-aggregate-put-bytes put-bytes-requires
+    (λ c. search needs) (λ c. search needs) (λ c. search needs) (λ c κs. search needs) add-counted cast-counted-2 (λ c κs. search needs)
+    (λ c. search needs) returns-3)

@@ -16,12 +16,5 @@ returns c = c .no-record .ensures ∙ record-defective _ _ _ _ (c .before .befor
 pub final-record-spec : {M : Type 1} → statement M
 final-record-spec =
     tie.close
-    (tie.spec
-    (λ c κs. search needs)
-    (λ c. search needs)
-    (λ c κs. search needs)
-    (λ c. search needs)
-    (λ c. search needs)
-    record-after-requires
-    returns
-    (λ c. search needs))
+    (tie.spec (λ c κs. search needs) (λ c. search needs) (λ c κs. search needs) (λ c. search needs) (λ c. search needs)
+    record-after-requires returns (λ c. search needs))

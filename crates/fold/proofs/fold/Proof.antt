@@ -21,13 +21,5 @@ returns-2 c = (c .before .before .fold-sound .ensures .numbers, c .before .befor
 pub fold-spec : {M : Type 1} → statement M
 fold-spec =
     tie.close
-    (tie.spec
-    (λ c κs. search needs)
-    (λ c. search needs)
-    (λ c κs. search needs)
-    (λ c. search needs)
-    (λ c. search needs)
-    fold-sound-requires
-    returns
-    (λ c. search needs)
-    returns-2)
+    (tie.spec (λ c κs. search needs) (λ c. search needs) (λ c κs. search needs) (λ c. search needs) (λ c. search needs) fold-sound-requires
+    returns (λ c. search needs) returns-2)

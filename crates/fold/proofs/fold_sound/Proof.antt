@@ -37,13 +37,5 @@ returns-2 c =
 pub fold-sound-spec : {M : Type 1} → statement M
 fold-sound-spec =
     tie.close
-    (tie.spec
-    (λ c κs. search needs)
-    (λ c. search needs)
-    cast-bad-change
-    (λ c κs. search needs)
-    (λ c. search needs)
-    finish-requires
-    returns
-    (λ c. search needs)
-    returns-2)
+    (tie.spec (λ c κs. search needs) (λ c. search needs) cast-bad-change (λ c κs. search needs) (λ c. search needs) finish-requires returns
+    (λ c. search needs) returns-2)

@@ -34,15 +34,5 @@ returns c = sym (fold-end (c .before .loop .s) (c .before .loop .i) (omega arith
 pub fold-in-spec : {M : Type 1} → statement M
 fold-in-spec =
     tie.close
-    (tie.spec
-    Inv-loop
-    μ-loop
-    loop-holds
-    (λ c. search needs)
-    (λ c κs. search needs)
-    (λ c. search needs)
-    (λ c. search needs)
-    loop-less
-    loop-again
-    same-length
-    returns)
+    (tie.spec Inv-loop μ-loop loop-holds (λ c. search needs) (λ c κs. search needs) (λ c. search needs) (λ c. search needs) loop-less
+    loop-again same-length returns)

@@ -27,11 +27,4 @@ returns-3 c = rw (ne-eqb _ _ (c .if2 .left))
 pub without-final-dot-spec : {M : Type 1} → statement M
 without-final-dot-spec =
     tie.close
-    (tie.spec
-    returns
-    (λ c. search needs)
-    (λ c. search needs)
-    (λ c. search needs)
-    slice-aggregate-result
-    returns-2
-    returns-3)
+    (tie.spec returns (λ c. search needs) (λ c. search needs) (λ c. search needs) slice-aggregate-result returns-2 returns-3)

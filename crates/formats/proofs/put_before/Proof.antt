@@ -20,14 +20,5 @@ returns-2 c = rw (le-ltb (c .before .before .before .before .before .before .bef
 pub put-before-spec : {M : Type 1} → statement M
 put-before-spec =
     tie.close
-    (tie.spec
-    (λ c. search needs)
-    (λ c. search needs)
-    put-named-requires
-    (λ c. search needs)
-    returns
-    (λ c. search needs)
-    (λ c. search needs)
-    put-fixed-requires
-    (λ c. search needs)
-    returns-2)
+    (tie.spec (λ c. search needs) (λ c. search needs) put-named-requires (λ c. search needs) returns (λ c. search needs) (λ c. search needs)
+    put-fixed-requires (λ c. search needs) returns-2)

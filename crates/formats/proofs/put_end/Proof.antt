@@ -25,14 +25,5 @@ returns-2 c = rw (ne-eqb (c .before .before .before .before .before .before .arg
 pub put-end-spec : {M : Type 1} → statement M
 put-end-spec =
     tie.close
-    (tie.spec
-    (λ c. search needs)
-    (λ c. search needs)
-    put-fixed-requires
-    (λ c. search needs)
-    returns
-    (λ c. search needs)
-    (λ c. search needs)
-    put-fixed-requires-2
-    (λ c. search needs)
-    returns-2)
+    (tie.spec (λ c. search needs) (λ c. search needs) put-fixed-requires (λ c. search needs) returns (λ c. search needs) (λ c. search needs)
+    put-fixed-requires-2 (λ c. search needs) returns-2)

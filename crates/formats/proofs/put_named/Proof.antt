@@ -70,18 +70,5 @@ returns c =
 pub put-named-spec : {M : Type 1} → statement M
 put-named-spec =
     tie.close
-    (tie.spec
-    put-fixed-requires
-    sub-put-bytes
-    part-put-bytes-start
-    (λ c. search needs)
-    put-bytes-requires
-    add-at
-    (λ c. search needs)
-    sub-put-fixed
-    part-put-fixed-start
-    (λ c. search needs)
-    put-fixed-requires-2
-    add-result
-    (λ c. search needs)
-    returns)
+    (tie.spec put-fixed-requires sub-put-bytes part-put-bytes-start (λ c. search needs) put-bytes-requires add-at (λ c. search needs)
+    sub-put-fixed part-put-fixed-start (λ c. search needs) put-fixed-requires-2 add-result (λ c. search needs) returns)

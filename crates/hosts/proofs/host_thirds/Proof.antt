@@ -10,10 +10,4 @@ returns c = rw (c .before .before .host-run .ensures, c .before .host-run2 .ensu
 pub host-thirds-spec : {M : Type 1} → statement M
 host-thirds-spec =
     tie.close
-    (tie.spec
-    (λ c κs. search needs)
-    (λ c κs. search needs)
-    (λ c. search needs)
-    (λ c. search needs)
-    (λ c κs. search needs)
-    returns)
+    (tie.spec (λ c κs. search needs) (λ c κs. search needs) (λ c. search needs) (λ c. search needs) (λ c κs. search needs) returns)

@@ -74,21 +74,5 @@ returns-5 c = c .label-ok2 .ensures ∙ sym (labels.labels-end (c .before .befor
 pub long-host-ok-spec : {M : Type 1} → statement M
 long-host-ok-spec =
     tie.close
-    (tie.spec
-    Inv-loop
-    μ-loop
-    returns
-    (λ c. search needs)
-    (λ c. search needs)
-    (λ c κs. search needs)
-    returns-2
-    returns-3
-    (λ c. search needs)
-    (λ c κs. search needs)
-    returns-4
-    (λ c. search needs)
-    (λ c. search needs)
-    (λ c. search needs)
-    loop-again
-    (λ c κs. search needs)
-    returns-5)
+    (tie.spec Inv-loop μ-loop returns (λ c. search needs) (λ c. search needs) (λ c κs. search needs) returns-2 returns-3 (λ c. search needs)
+    (λ c κs. search needs) returns-4 (λ c. search needs) (λ c. search needs) (λ c. search needs) loop-again (λ c κs. search needs) returns-5)

@@ -123,31 +123,7 @@ returns-4 c =
 pub index-from-spec : {M : Type 1} → statement M
 index-from-spec =
     tie.close
-    (tie.spec
-    Inv-loop
-    μ-loop
-    (λ c κs. search needs)
-    loop-holds
-    returns
-    (λ c κs. search needs)
-    (λ c. search needs)
-    (λ c. search needs)
-    step-requires
-    (λ c. search needs)
-    cast-starts
-    (λ c. search needs)
-    (λ c. search needs)
-    (λ c. search needs)
-    add-stack
-    cast-stack
-    mul-stack
-    array-write-stack
-    add-depth
-    (λ c. search needs)
-    loop-less
-    loop-again
-    (λ c. search needs)
-    returns-2
-    (λ c. search needs)
-    returns-3
+    (tie.spec Inv-loop μ-loop (λ c κs. search needs) loop-holds returns (λ c κs. search needs) (λ c. search needs) (λ c. search needs)
+    step-requires (λ c. search needs) cast-starts (λ c. search needs) (λ c. search needs) (λ c. search needs) add-stack cast-stack mul-stack
+    array-write-stack add-depth (λ c. search needs) loop-less loop-again (λ c. search needs) returns-2 (λ c. search needs) returns-3
     returns-4)

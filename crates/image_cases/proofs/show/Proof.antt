@@ -11,12 +11,5 @@ slice-aggregate-check c = sym (length-take-le _ _ (c .before .if1 .taken))
 pub show-spec : {M : Type 1} → statement M
 show-spec =
     tie.close
-    (tie.spec
-    (λ c κs. search needs)
-    (λ c. search needs)
-    (λ c κs. search needs)
-    slice-aggregate-check
-    (λ c κs. search needs)
-    (λ c κs. search needs)
-    (λ c. search needs)
-    (λ c. search needs))
+    (tie.spec (λ c κs. search needs) (λ c. search needs) (λ c κs. search needs) slice-aggregate-check (λ c κs. search needs)
+    (λ c κs. search needs) (λ c. search needs) (λ c. search needs))

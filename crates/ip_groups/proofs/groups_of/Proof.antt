@@ -53,22 +53,6 @@ returns c =
 pub groups-of-spec : {M : Type 1} → statement M
 groups-of-spec =
     tie.close
-    (tie.spec
-    Inv-loop
-    μ-loop
-    (λ c. search needs)
-    (λ c. search needs)
-    (λ c. search needs)
-    cast-high
-    (λ c. search needs)
-    (λ c. search needs)
-    (λ c. search needs)
-    cast-low
-    mul-groups
-    add-groups
-    (λ c. search needs)
-    (λ c. search needs)
-    (λ c. search needs)
-    (λ c. search needs)
-    loop-again
-    returns)
+    (tie.spec Inv-loop μ-loop (λ c. search needs) (λ c. search needs) (λ c. search needs) cast-high (λ c. search needs) (λ c. search needs)
+    (λ c. search needs) cast-low mul-groups add-groups (λ c. search needs) (λ c. search needs) (λ c. search needs) (λ c. search needs)
+    loop-again returns)

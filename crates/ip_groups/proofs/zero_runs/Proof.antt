@@ -48,16 +48,5 @@ returns c = runs-all (omega arith) (c .before .loop .inv .1)
 pub zero-runs-spec : {M : Type 1} → statement M
 zero-runs-spec =
     tie.close
-    (tie.spec
-    Inv-loop
-    μ-loop
-    loop-holds
-    (λ c. search needs)
-    (λ c. search needs)
-    (λ c. search needs)
-    add-first
-    (λ c. search needs)
-    loop-again
-    (λ c. search needs)
-    loop-again-2
-    returns)
+    (tie.spec Inv-loop μ-loop loop-holds (λ c. search needs) (λ c. search needs) (λ c. search needs) add-first (λ c. search needs)
+    loop-again (λ c. search needs) loop-again-2 returns)

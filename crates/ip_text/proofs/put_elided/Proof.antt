@@ -54,13 +54,5 @@ returns c =
 pub put-elided-spec : {M : Type 1} → statement M
 put-elided-spec =
     tie.close
-    (tie.spec
-    put-spelled-requires
-    (λ c. search needs)
-    sub-put-after
-    part-put-after-start
-    (λ c. search needs)
-    put-after-requires
-    add-result
-    (λ c. search needs)
-    returns)
+    (tie.spec put-spelled-requires (λ c. search needs) sub-put-after part-put-after-start (λ c. search needs) put-after-requires add-result
+    (λ c. search needs) returns)

@@ -13,9 +13,4 @@ returns c = rw (c .before .before .before .before .before .octets-of .ensures) a
 pub put-ipv4-spec : {M : Type 1} → statement M
 put-ipv4-spec =
     tie.close
-    (tie.spec
-    (λ c κs. search needs)
-    (λ c. search needs)
-    put-spelled-requires
-    (λ c. search needs)
-    returns)
+    (tie.spec (λ c κs. search needs) (λ c. search needs) put-spelled-requires (λ c. search needs) returns)

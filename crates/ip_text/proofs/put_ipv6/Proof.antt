@@ -60,21 +60,6 @@ returns-2 c =
 pub put-ipv6-spec : {M : Type 1} → statement M
 put-ipv6-spec =
     tie.close
-    (tie.spec
-    (λ c κs. search needs)
-    (λ c. search needs)
-    (λ c κs. search needs)
-    (λ c. search needs)
-    (λ c. search needs)
-    (λ c. search needs)
-    (λ c. search needs)
-    (λ c κs. search needs)
-    (λ c. search needs)
-    (λ c. search needs)
-    put-after-requires
-    (λ c. search needs)
-    returns
-    (λ c. search needs)
-    put-shortened-requires
-    (λ c. search needs)
-    returns-2)
+    (tie.spec (λ c κs. search needs) (λ c. search needs) (λ c κs. search needs) (λ c. search needs) (λ c. search needs) (λ c. search needs)
+    (λ c. search needs) (λ c κs. search needs) (λ c. search needs) (λ c. search needs) put-after-requires (λ c. search needs) returns
+    (λ c. search needs) put-shortened-requires (λ c. search needs) returns-2)

@@ -54,16 +54,5 @@ returns-2 c =
 pub put-shortened-spec : {M : Type 1} → statement M
 put-shortened-spec =
     tie.close
-    (tie.spec
-    put-spelled-requires
-    (λ c. search needs)
-    returns
-    add-rest
-    slice-aggregate-put-elided
-    mul-put-elided
-    sub-put-elided
-    part-put-elided-start
-    (λ c. search needs)
-    put-elided-requires
-    (λ c. search needs)
-    returns-2)
+    (tie.spec put-spelled-requires (λ c. search needs) returns add-rest slice-aggregate-put-elided mul-put-elided sub-put-elided
+    part-put-elided-start (λ c. search needs) put-elided-requires (λ c. search needs) returns-2)

@@ -77,24 +77,6 @@ returns-3 c =
 pub read-ipv4-spec : {M : Type 1} → statement M
 read-ipv4-spec =
     tie.close
-    (tie.spec
-    Inv-loop
-    μ-loop
-    loop-holds
-    (λ c κs. search needs)
-    slice-aggregate-read-decimal
-    (λ c κs. search needs)
-    (λ c. search needs)
-    (λ c. search needs)
-    returns
-    cast-bytes
-    (λ c. search needs)
-    (λ c. search needs)
-    returns-2
-    (λ c. omega arith)
-    (λ c. search needs)
-    (λ c. search needs)
-    (λ c. search needs)
-    (λ c. search needs)
-    loop-again
-    returns-3)
+    (tie.spec Inv-loop μ-loop loop-holds (λ c κs. search needs) slice-aggregate-read-decimal (λ c κs. search needs) (λ c. search needs)
+    (λ c. search needs) returns cast-bytes (λ c. search needs) (λ c. search needs) returns-2 (λ c. omega arith) (λ c. search needs)
+    (λ c. search needs) (λ c. search needs) (λ c. search needs) loop-again returns-3)

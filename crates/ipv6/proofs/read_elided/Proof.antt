@@ -46,15 +46,5 @@ returns-3 c =
 pub read-elided-spec : {M : Type 1} → statement M
 read-elided-spec =
     tie.close
-    (tie.spec
-    slice-aggregate-read-side
-    (λ c κs. search needs)
-    (λ c. search needs)
-    (λ c. search needs)
-    (λ c. search needs)
-    (λ c. search needs)
-    (λ c κs. search needs)
-    join-sides-requires
-    returns
-    returns-2
-    returns-3)
+    (tie.spec slice-aggregate-read-side (λ c κs. search needs) (λ c. search needs) (λ c. search needs) (λ c. search needs)
+    (λ c. search needs) (λ c κs. search needs) join-sides-requires returns returns-2 returns-3)

@@ -41,10 +41,4 @@ returns-3 c =
 pub read-ipv6-spec : {M : Type 1} → statement M
 read-ipv6-spec =
     tie.close
-    (tie.spec
-    (λ c κs. search needs)
-    read-elided-requires
-    returns
-    (λ c κs. search needs)
-    returns-2
-    returns-3)
+    (tie.spec (λ c κs. search needs) read-elided-requires returns (λ c κs. search needs) returns-2 returns-3)

@@ -79,17 +79,5 @@ returns c =
 pub put-line-spec : {M : Type 1} → statement M
 put-line-spec =
     tie.close
-    (tie.spec
-    (λ c κs. search needs)
-    (λ c. search needs)
-    put-spelled-requires
-    slice-aggregate-put-following
-    sub-put-following
-    part-put-following-start
-    (λ c. search needs)
-    put-following-requires
-    add-at
-    slice-write-out
-    add-result
-    same-length
-    returns)
+    (tie.spec (λ c κs. search needs) (λ c. search needs) put-spelled-requires slice-aggregate-put-following sub-put-following
+    part-put-following-start (λ c. search needs) put-following-requires add-at slice-write-out add-result same-length returns)

@@ -61,16 +61,5 @@ returns c = record { counted = omega arith; start = c .before .before .loop .inv
 pub gather-spec : {M : Type 1} → statement M
 gather-spec =
     tie.close
-    (tie.spec
-    Inv-loop
-    μ-loop
-    loop-holds
-    range-start-requires
-    cast-firsts
-    mul-firsts
-    element-write-firsts
-    add-n
-    (λ c. search needs)
-    (λ c. search needs)
-    loop-again
-    returns)
+    (tie.spec Inv-loop μ-loop loop-holds range-start-requires cast-firsts mul-firsts element-write-firsts add-n (λ c. search needs)
+    (λ c. search needs) loop-again returns)

@@ -114,24 +114,6 @@ returns-2 c =
 pub hop-spec : {M : Type 1} → statement M
 hop-spec =
     tie.close
-    (tie.spec
-    Inv-loop
-    μ-loop
-    (λ c κs. search needs)
-    mul-end
-    element-copy-out-end
-    cast-end
-    add-end
-    add-j
-    loop-holds
-    mul-numbers-at-most
-    element-copy-out-numbers-at-most
-    cast-numbers-at-most
-    numbers-at-most-requires
-    returns
-    mul-j
-    element-copy-out-j
-    cast-j
-    loop-less
-    loop-again
-    returns-2)
+    (tie.spec Inv-loop μ-loop (λ c κs. search needs) mul-end element-copy-out-end cast-end add-end add-j loop-holds mul-numbers-at-most
+    element-copy-out-numbers-at-most cast-numbers-at-most numbers-at-most-requires returns mul-j element-copy-out-j cast-j loop-less
+    loop-again returns-2)

@@ -55,15 +55,5 @@ returns c = λ j p q. c .before .loop .inv .2 j (omega arith) q
 pub links-of-spec : {M : Type 1} → statement M
 links-of-spec =
     tie.close
-    (tie.spec
-    Inv-loop
-    μ-loop
-    loop-holds
-    (λ c. search needs)
-    hop-requires
-    cast-links
-    mul-links
-    array-write-links
-    (λ c. search needs)
-    loop-again
-    returns)
+    (tie.spec Inv-loop μ-loop loop-holds (λ c. search needs) hop-requires cast-links mul-links array-write-links (λ c. search needs)
+    loop-again returns)

@@ -24,15 +24,5 @@ returns-2 c = bytes-short _ _ _ (c .before .before .before .step-at .ensures) (c
 pub field-bytes-spec : {M : Type 1} → statement M
 field-bytes-spec =
     tie.close
-    (tie.spec
-    (λ c κs. search needs)
-    (λ c. search needs)
-    sub-result
-    part-result-start
-    part-result-end
-    (λ c. search needs)
-    (λ c. search needs)
-    (λ c. search needs)
-    (λ c. search needs)
-    returns
-    returns-2)
+    (tie.spec (λ c κs. search needs) (λ c. search needs) sub-result part-result-start part-result-end (λ c. search needs)
+    (λ c. search needs) (λ c. search needs) (λ c. search needs) returns returns-2)

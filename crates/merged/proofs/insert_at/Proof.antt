@@ -52,18 +52,5 @@ returns c =
 pub insert-at-spec : {M : Type 1} → statement M
 insert-at-spec =
     tie.close
-    (tie.spec
-    Inv-loop
-    μ-loop
-    loop-holds
-    (λ c. search needs)
-    (λ c. search needs)
-    element-copy-out-index
-    (λ c. search needs)
-    element-write-index
-    (λ c. search needs)
-    (λ c. search needs)
-    loop-again
-    (λ c. search needs)
-    element-write-index-2
-    returns)
+    (tie.spec Inv-loop μ-loop loop-holds (λ c. search needs) (λ c. search needs) element-copy-out-index (λ c. search needs)
+    element-write-index (λ c. search needs) (λ c. search needs) loop-again (λ c. search needs) element-write-index-2 returns)

@@ -50,17 +50,5 @@ returns c =
 pub remove-at-spec : {M : Type 1} → statement M
 remove-at-spec =
     tie.close
-    (tie.spec
-    Inv-loop
-    μ-loop
-    (λ c. search needs)
-    loop-holds
-    (λ c. search needs)
-    element-copy-out-index
-    sub-index
-    (λ c. search needs)
-    element-write-index
-    (λ c. search needs)
-    (λ c. search needs)
-    loop-again
-    returns)
+    (tie.spec Inv-loop μ-loop (λ c. search needs) loop-holds (λ c. search needs) element-copy-out-index sub-index (λ c. search needs)
+    element-write-index (λ c. search needs) (λ c. search needs) loop-again returns)

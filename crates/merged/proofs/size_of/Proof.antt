@@ -49,15 +49,5 @@ returns c =
 pub size-of-spec : {M : Type 1} → statement M
 size-of-spec =
     tie.close
-    (tie.spec
-    Inv-loop
-    μ-loop
-    loop-holds
-    (λ c. search needs)
-    element-copy-out-record-at
-    (λ c κs. search needs)
-    add-size
-    (λ c. search needs)
-    (λ c. search needs)
-    loop-again
-    returns)
+    (tie.spec Inv-loop μ-loop loop-holds (λ c. search needs) element-copy-out-record-at (λ c κs. search needs) add-size (λ c. search needs)
+    (λ c. search needs) loop-again returns)

@@ -76,21 +76,6 @@ returns-3 c =
 pub nest-spec : {M : Type 1} → statement M
 nest-spec =
     tie.close
-    (tie.spec
-    Inv-loop
-    μ-loop
-    loop-holds
-    (λ c. search needs)
-    (λ c. search needs)
-    (λ c. search needs)
-    cast-last
-    add-last
-    numbers-at-most-requires
-    (λ c. search needs)
-    numbers-at-most-requires-2
-    returns
-    returns-2
-    (λ c. search needs)
-    (λ c. search needs)
-    loop-again
-    returns-3)
+    (tie.spec Inv-loop μ-loop loop-holds (λ c. search needs) (λ c. search needs) (λ c. search needs) cast-last add-last
+    numbers-at-most-requires (λ c. search needs) numbers-at-most-requires-2 returns returns-2 (λ c. search needs) (λ c. search needs)
+    loop-again returns-3)

@@ -43,13 +43,5 @@ returns-3 c = high-after 64 _ _ (low-below (c .before .before)) _ (c .before .if
 pub after-spec : {M : Type 1} → statement M
 after-spec =
     tie.close
-    (tie.spec
-    (λ c κs. search needs)
-    (λ c. search needs)
-    (λ c. search needs)
-    returns
-    add-next-2
-    returns-2
-    power-of-two-requires-2
-    add-next-3
+    (tie.spec (λ c κs. search needs) (λ c. search needs) (λ c. search needs) returns add-next-2 returns-2 power-of-two-requires-2 add-next-3
     returns-3)

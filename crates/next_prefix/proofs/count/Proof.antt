@@ -75,14 +75,4 @@ loop-again c = (inside c, omega (arith, turn c .before .loop .inv .1, ap length 
 pub count-spec : {M : Type 1} → statement M
 count-spec =
     tie.close
-    (tie.spec
-    Inv-loop
-    μ-loop
-    loop-holds
-    prefix-at-requires
-    words-at-most-requires
-    returns
-    after-requires
-    add-n
-    loop-less
-    loop-again)
+    (tie.spec Inv-loop μ-loop loop-holds prefix-at-requires words-at-most-requires returns after-requires add-n loop-less loop-again)

@@ -32,13 +32,5 @@ returns-3 c = let start = c .before .before in all-of 128 _ (start .pre .0) (c .
 pub last-of-spec : {M : Type 1} → statement M
 last-of-spec =
     tie.close
-    (tie.spec
-    (λ c κs. search needs)
-    (λ c. search needs)
-    add-end
-    returns
-    (λ c κs. search needs)
-    (λ c. search needs)
-    add-end-2
-    returns-2
+    (tie.spec (λ c κs. search needs) (λ c. search needs) add-end returns (λ c κs. search needs) (λ c. search needs) add-end-2 returns-2
     returns-3)

@@ -46,12 +46,5 @@ returns-2 c = (largest (c .before), c .last-of2 .ensures)
 pub prefix-at-spec : {M : Type 1} → statement M
 prefix-at-spec =
     tie.close
-    (tie.spec
-    (λ c κs. search needs)
-    last-of-requires
-    (λ c κs. search needs)
-    returns
-    (λ c κs. search needs)
-    (λ c κs. search needs)
-    last-of-requires-2
-    returns-2)
+    (tie.spec (λ c κs. search needs) last-of-requires (λ c κs. search needs) returns (λ c κs. search needs) (λ c κs. search needs)
+    last-of-requires-2 returns-2)

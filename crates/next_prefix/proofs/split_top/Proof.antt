@@ -32,13 +32,5 @@ returns-2 c =
 pub split-top-spec : {M : Type 1} → statement M
 split-top-spec =
     tie.close
-    (tie.spec
-    top-bit-requires
-    (λ c κs. search needs)
-    (λ c. search needs)
-    returns
-    top-bit-requires-2
-    (λ c κs. search needs)
-    (λ c. search needs)
-    (λ c. search needs)
-    returns-2)
+    (tie.spec top-bit-requires (λ c κs. search needs) (λ c. search needs) returns top-bit-requires-2 (λ c κs. search needs)
+    (λ c. search needs) (λ c. search needs) returns-2)

@@ -35,16 +35,5 @@ returns-4 c = rw (← (c .before .before .before .before .before .between .ensur
 pub digit-spec : {M : Type 1} → statement M
 digit-spec =
     tie.close
-    (tie.spec
-    (λ c κs. search needs)
-    sub-result
-    returns
-    (λ c κs. search needs)
-    sub-result-2
-    (λ c. search needs)
-    returns-2
-    (λ c κs. search needs)
-    sub-result-3
-    (λ c. search needs)
-    returns-3
-    returns-4)
+    (tie.spec (λ c κs. search needs) sub-result returns (λ c κs. search needs) sub-result-2 (λ c. search needs) returns-2
+    (λ c κs. search needs) sub-result-3 (λ c. search needs) returns-3 returns-4)

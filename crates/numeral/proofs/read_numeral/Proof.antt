@@ -63,19 +63,5 @@ returns-4 c =
 pub read-numeral-spec : {M : Type 1} → statement M
 read-numeral-spec =
     tie.close
-    (tie.spec
-    Inv-loop
-    μ-loop
-    returns
-    loop-holds
-    (λ c. search needs)
-    (λ c κs. search needs)
-    (λ c. search needs)
-    returns-2
-    mul-v
-    add-v
-    returns-3
-    (λ c. search needs)
-    (λ c. search needs)
-    loop-again
-    returns-4)
+    (tie.spec Inv-loop μ-loop returns loop-holds (λ c. search needs) (λ c κs. search needs) (λ c. search needs) returns-2 mul-v add-v
+    returns-3 (λ c. search needs) (λ c. search needs) loop-again returns-4)

@@ -69,21 +69,6 @@ returns-6 c =
 pub change-at-spec : {M : Type 1} → statement M
 change-at-spec =
     tie.close
-    (tie.spec
-    (λ c κs. search needs)
-    (λ c. search needs)
-    (λ c. search needs)
-    returns
-    sub-good-record
-    part-good-record-start
-    part-good-record-end
-    good-record-requires
-    returns-2
-    returns-3
-    sub-good-removal
-    part-good-removal-start
-    part-good-removal-end
-    (λ c κs. search needs)
-    returns-4
-    returns-5
-    returns-6)
+    (tie.spec (λ c κs. search needs) (λ c. search needs) (λ c. search needs) returns sub-good-record part-good-record-start
+    part-good-record-end good-record-requires returns-2 returns-3 sub-good-removal part-good-removal-start part-good-removal-end
+    (λ c κs. search needs) returns-4 returns-5 returns-6)

@@ -31,13 +31,5 @@ returns-4 c = let a = c .before .before .before .before in key-host _ _ (c .befo
 pub good-key-spec : {M : Type 1} → statement M
 good-key-spec =
     tie.close
-    (tie.spec
-    (λ c κs. search needs)
-    (λ c. search needs)
-    returns
-    numbers-at-most-requires
-    returns-2
-    (λ c κs. search needs)
-    returns-3
-    (λ c κs. search needs)
-    returns-4)
+    (tie.spec (λ c κs. search needs) (λ c. search needs) returns numbers-at-most-requires returns-2 (λ c κs. search needs) returns-3
+    (λ c κs. search needs) returns-4)

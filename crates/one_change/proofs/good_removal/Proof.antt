@@ -31,13 +31,5 @@ returns-4 c =
 pub good-removal-spec : {M : Type 1} → statement M
 good-removal-spec =
     tie.close
-    (tie.spec
-    returns
-    shared-slice-read-tag
-    returns-2
-    returns-3
-    (λ c. search needs)
-    (λ c. search needs)
-    (λ c. search needs)
-    (λ c κs. search needs)
-    returns-4)
+    (tie.spec returns shared-slice-read-tag returns-2 returns-3 (λ c. search needs) (λ c. search needs) (λ c. search needs)
+    (λ c κs. search needs) returns-4)

@@ -14,11 +14,4 @@ returns-2 c = rw (c .enum-told .given .1) (nothing-reported (now (c .before .bef
 pub report-found-spec : {M : Type 1} → statement M
 report-found-spec =
     tie.close
-    (tie.spec
-    (λ c. search needs)
-    (λ c. search needs)
-    (λ c κs. search needs)
-    (λ c. search needs)
-    (λ c. search needs)
-    returns
-    returns-2)
+    (tie.spec (λ c. search needs) (λ c. search needs) (λ c κs. search needs) (λ c. search needs) (λ c. search needs) returns returns-2)

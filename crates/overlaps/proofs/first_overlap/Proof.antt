@@ -92,22 +92,6 @@ returns-2 c =
 pub first-overlap-spec : {M : Type 1} → statement M
 first-overlap-spec =
     tie.close
-    (tie.spec
-    Inv-loop
-    μ-loop
-    loop-holds
-    (λ c. search needs)
-    element-copy-out-start
-    (λ c κs. search needs)
-    nest-after-requires
-    (λ c. search needs)
-    mul-stack
-    array-write-stack
-    add-depth
-    shared-slice-read-family
-    (λ c. search needs)
-    (λ c. search needs)
-    loop-again
-    (λ c. search needs)
-    returns
-    returns-2)
+    (tie.spec Inv-loop μ-loop loop-holds (λ c. search needs) element-copy-out-start (λ c κs. search needs) nest-after-requires
+    (λ c. search needs) mul-stack array-write-stack add-depth shared-slice-read-family (λ c. search needs) (λ c. search needs) loop-again
+    (λ c. search needs) returns returns-2)

@@ -135,24 +135,6 @@ returns-3 c =
 pub nest-spec : {M : Type 1} → statement M
 nest-spec =
     tie.close
-    (tie.spec
-    Inv-loop
-    μ-loop
-    shared-slice-read-width-of
-    (λ c κs. search needs)
-    loop-holds
-    (λ c. search needs)
-    (λ c. search needs)
-    element-copy-out-record-at
-    (λ c κs. search needs)
-    add-numbers-at-most
-    numbers-at-most-requires
-    add-numbers-at-most-2
-    add-numbers-at-most-3
-    numbers-at-most-requires-2
-    returns
-    returns-2
-    (λ c. search needs)
-    (λ c. search needs)
-    loop-again
-    returns-3)
+    (tie.spec Inv-loop μ-loop shared-slice-read-width-of (λ c κs. search needs) loop-holds (λ c. search needs) (λ c. search needs)
+    element-copy-out-record-at (λ c κs. search needs) add-numbers-at-most numbers-at-most-requires add-numbers-at-most-2
+    add-numbers-at-most-3 numbers-at-most-requires-2 returns returns-2 (λ c. search needs) (λ c. search needs) loop-again returns-3)

@@ -59,10 +59,4 @@ returns-3 c =
 pub nest-after-spec : {M : Type 1} → statement M
 nest-after-spec =
     tie.close
-    (tie.spec
-    shared-slice-read-if1
-    returns
-    shared-slice-read-if2
-    returns-2
-    nest-requires
-    returns-3)
+    (tie.spec shared-slice-read-if1 returns shared-slice-read-if2 returns-2 nest-requires returns-3)

@@ -46,21 +46,6 @@ returns-6 c =
 pub pattern-matches-spec : {M : Type 1} → statement M
 pattern-matches-spec =
     tie.close
-    (tie.spec
-    returns
-    returns-2
-    slice-aggregate-same
-    (λ c κs. search needs)
-    returns-3
-    (λ c. search needs)
-    (λ c. search needs)
-    (λ c. search needs)
-    (λ c. search needs)
-    (λ c κs. search needs)
-    returns-4
-    returns-5
-    (λ c. search needs)
-    (λ c. search needs)
-    (λ c. search needs)
-    (λ c κs. search needs)
-    returns-6)
+    (tie.spec returns returns-2 slice-aggregate-same (λ c κs. search needs) returns-3 (λ c. search needs) (λ c. search needs)
+    (λ c. search needs) (λ c. search needs) (λ c κs. search needs) returns-4 returns-5 (λ c. search needs) (λ c. search needs)
+    (λ c. search needs) (λ c κs. search needs) returns-6)

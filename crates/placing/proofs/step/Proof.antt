@@ -81,17 +81,5 @@ returns-6 c =
 pub step-spec : {M : Type 1} → statement M
 step-spec =
     tie.close
-    (tie.spec
-    (λ c κs. search needs)
-    returns
-    named-after-requires
-    returns-2
-    returns-3
-    (λ c κs. search needs)
-    returns-4
-    add-from
-    add-start
-    block-after-requires
-    returns-5
-    block-after-requires-2
-    returns-6)
+    (tie.spec (λ c κs. search needs) returns named-after-requires returns-2 returns-3 (λ c κs. search needs) returns-4 add-from add-start
+    block-after-requires returns-5 block-after-requires-2 returns-6)

@@ -23,12 +23,4 @@ returns c = written-one _ (omega arith) (c .before .before .put-address .ensures
 pub put-entry-spec : {M : Type 1} → statement M
 put-entry-spec =
     tie.close
-    (tie.spec
-    (λ c κs. search needs)
-    cast-bits
-    mul-bits
-    (λ c. search needs)
-    cast-out
-    (λ c. search needs)
-    (λ c. search needs)
-    returns)
+    (tie.spec (λ c κs. search needs) cast-bits mul-bits (λ c. search needs) cast-out (λ c. search needs) (λ c. search needs) returns)

@@ -72,18 +72,5 @@ returns c =
 pub put-words-spec : {M : Type 1} → statement M
 put-words-spec =
     tie.close
-    (tie.spec
-    Inv-loop
-    μ-loop
-    loop-holds
-    word-requires
-    mul-put8
-    sub-put8
-    part-put8-start
-    (λ c. search needs)
-    put8-requires
-    add-i
-    loop-less
-    loop-again
-    same-length
-    returns)
+    (tie.spec Inv-loop μ-loop loop-holds word-requires mul-put8 sub-put8 part-put8-start (λ c. search needs) put8-requires add-i loop-less
+    loop-again same-length returns)

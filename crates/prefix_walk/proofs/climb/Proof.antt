@@ -136,22 +136,5 @@ loop-again c = (forward c, entered (turn (entry c) .before .loop .inv .1) (more 
 pub climb-spec : {M : Type 1} → statement M
 climb-spec =
     tie.close
-    (tie.spec
-    Inv-loop
-    μ-loop
-    loop-holds
-    trailing-zeros-requires
-    last-of-requires
-    words-at-most-requires
-    same-length
-    returns
-    sub-put-entry
-    part-put-entry-start
-    (λ c. search needs)
-    put-entry-requires
-    after-requires
-    add-at
-    add-at-2
-    add-n
-    loop-less
-    loop-again)
+    (tie.spec Inv-loop μ-loop loop-holds trailing-zeros-requires last-of-requires words-at-most-requires same-length returns sub-put-entry
+    part-put-entry-start (λ c. search needs) put-entry-requires after-requires add-at add-at-2 add-n loop-less loop-again)

@@ -123,21 +123,6 @@ returns-2 c = both-listed (first-entered (c .before .before .before .before)) (c
 pub descend-spec : {M : Type 1} → statement M
 descend-spec =
     tie.close
-    (tie.spec
-    (λ c κs. search needs)
-    (λ c κs. search needs)
-    put-entry-requires
-    last-of-requires
-    (λ c κs. search needs)
-    (λ c. search needs)
-    returns
-    (λ c κs. search needs)
-    after-requires
-    add-fall
-    sub-fall
-    part-fall-start
-    (λ c. search needs)
-    fall-requires
-    add-result
-    (λ c. search needs)
-    returns-2)
+    (tie.spec (λ c κs. search needs) (λ c κs. search needs) put-entry-requires last-of-requires (λ c κs. search needs) (λ c. search needs)
+    returns (λ c κs. search needs) after-requires add-fall sub-fall part-fall-start (λ c. search needs) fall-requires add-result
+    (λ c. search needs) returns-2)

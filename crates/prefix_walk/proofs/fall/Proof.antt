@@ -123,21 +123,5 @@ returns c =
 pub fall-spec : {M : Type 1} → statement M
 fall-spec =
     tie.close
-    (tie.spec
-    Inv-loop
-    μ-loop
-    loop-holds
-    is-zero-requires
-    split-top-requires
-    sub-put-entry
-    part-put-entry-start
-    (λ c. search needs)
-    put-entry-requires
-    after-requires
-    add-at
-    add-at-2
-    add-n
-    loop-less
-    loop-again
-    same-length
-    returns)
+    (tie.spec Inv-loop μ-loop loop-holds is-zero-requires split-top-requires sub-put-entry part-put-entry-start (λ c. search needs)
+    put-entry-requires after-requires add-at add-at-2 add-n loop-less loop-again same-length returns)

@@ -47,12 +47,5 @@ returns c = both-listed (c .before .before .before .before .before .before .befo
 pub write-spec : {M : Type 1} → statement M
 write-spec =
     tie.close
-    (tie.spec
-    (λ c κs. search needs)
-    sub-descend
-    part-descend-start
-    (λ c. search needs)
-    descend-requires
-    add-result
-    (λ c. search needs)
+    (tie.spec (λ c κs. search needs) sub-descend part-descend-start (λ c. search needs) descend-requires add-result (λ c. search needs)
     returns)

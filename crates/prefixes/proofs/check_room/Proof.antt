@@ -30,14 +30,4 @@ returns-3 c = too-short (c .before .before .before .pre) (c .before .count .ensu
 pub check-room-spec : {M : Type 1} → statement M
 check-room-spec =
     tie.close
-    (tie.spec
-    add-size
-    mul-if1
-    (λ c. search needs)
-    mul-if1-2
-    returns
-    (λ c κs. search needs)
-    (λ c. search needs)
-    mul-if2
-    returns-2
-    returns-3)
+    (tie.spec add-size mul-if1 (λ c. search needs) mul-if1-2 returns (λ c κs. search needs) (λ c. search needs) mul-if2 returns-2 returns-3)

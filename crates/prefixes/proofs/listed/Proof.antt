@@ -73,15 +73,5 @@ returns-3 c =
 pub listed-spec : {M : Type 1} → statement M
 listed-spec =
     tie.close
-    (tie.spec
-    (λ c κs. search needs)
-    (λ c κs. search needs)
-    (λ c κs. search needs)
-    returns
-    check-room-requires
-    (λ c. search needs)
-    (λ c. search needs)
-    write-requires
-    returns-2
-    (λ c. search needs)
-    returns-3)
+    (tie.spec (λ c κs. search needs) (λ c κs. search needs) (λ c κs. search needs) returns check-room-requires (λ c. search needs)
+    (λ c. search needs) write-requires returns-2 (λ c. search needs) returns-3)

@@ -16,11 +16,4 @@ returns-3 c = neither _ _ (c .before .if1 .left) (c .if2 .left)
 pub prefixes-spec : {M : Type 1} → statement M
 prefixes-spec =
     tie.close
-    (tie.spec
-    (λ c κs. search needs)
-    (λ c. search needs)
-    returns
-    (λ c κs. search needs)
-    (λ c. search needs)
-    returns-2
-    returns-3)
+    (tie.spec (λ c κs. search needs) (λ c. search needs) returns (λ c κs. search needs) (λ c. search needs) returns-2 returns-3)

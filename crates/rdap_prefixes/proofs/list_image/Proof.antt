@@ -10,11 +10,5 @@ list-networks-requires c κs =
 pub list-image-spec : {M : Type 1} → statement M
 list-image-spec =
     tie.close
-    (tie.spec
-    (λ c κs. search needs)
-    (λ c. search needs)
-    list-networks-requires
-    (λ c. search needs)
-    (λ c κs. search needs)
-    (λ c. search needs)
-    (λ c. search needs))
+    (tie.spec (λ c κs. search needs) (λ c. search needs) list-networks-requires (λ c. search needs) (λ c κs. search needs)
+    (λ c. search needs) (λ c. search needs))

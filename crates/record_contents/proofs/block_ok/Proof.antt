@@ -82,14 +82,5 @@ returns-3 c =
 pub block-ok-spec : {M : Type 1} → statement M
 block-ok-spec =
     tie.close
-    (tie.spec
-    sub-status
-    shared-slice-read-if1
-    returns
-    add-start
-    add-numbers-at-most
-    numbers-at-most-requires
-    returns-2
-    add-numbers-at-most-2
-    numbers-at-most-requires-2
-    returns-3)
+    (tie.spec sub-status shared-slice-read-if1 returns add-start add-numbers-at-most numbers-at-most-requires returns-2
+    add-numbers-at-most-2 numbers-at-most-requires-2 returns-3)

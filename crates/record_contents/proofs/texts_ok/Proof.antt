@@ -58,12 +58,4 @@ returns-2 c =
 pub texts-ok-spec : {M : Type 1} → statement M
 texts-ok-spec =
     tie.close
-    (tie.spec
-    sub-handle-ok
-    part-handle-ok-start
-    part-handle-ok-end
-    (λ c κs. search needs)
-    returns
-    add-name-ok
-    name-ok-requires
-    returns-2)
+    (tie.spec sub-handle-ok part-handle-ok-start part-handle-ok-end (λ c κs. search needs) returns add-name-ok name-ok-requires returns-2)

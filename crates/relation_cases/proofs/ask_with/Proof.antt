@@ -11,10 +11,4 @@ slice-aggregate-ask c = sym (length-take-le _ _ (c .before .if1 .taken))
 pub ask-with-spec : {M : Type 1} → statement M
 ask-with-spec =
     tie.close
-    (tie.spec
-    (λ c. search needs)
-    slice-aggregate-ask
-    (λ c κs. search needs)
-    (λ c. search needs)
-    (λ c. search needs)
-    (λ c. search needs))
+    (tie.spec (λ c. search needs) slice-aggregate-ask (λ c κs. search needs) (λ c. search needs) (λ c. search needs) (λ c. search needs))

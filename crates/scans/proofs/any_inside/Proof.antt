@@ -71,17 +71,5 @@ returns-3 c = let w = c .before .before in rw (run-end (call w .pre) (w .loop .i
 pub any-inside-spec : {M : Type 1} → statement M
 any-inside-spec =
     tie.close
-    (tie.spec
-    Inv-loop
-    μ-loop
-    (λ c κs. search needs)
-    loop-holds
-    range-start-requires
-    at-least-at-requires
-    returns
-    strictly-inside-requires
-    returns-2
-    (λ c. search needs)
-    (λ c. search needs)
-    loop-again
-    returns-3)
+    (tie.spec Inv-loop μ-loop (λ c κs. search needs) loop-holds range-start-requires at-least-at-requires returns strictly-inside-requires
+    returns-2 (λ c. search needs) (λ c. search needs) loop-again returns-3)

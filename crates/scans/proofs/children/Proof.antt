@@ -120,19 +120,5 @@ returns-2 c =
 pub children-spec : {M : Type 1} → statement M
 children-spec =
     tie.close
-    (tie.spec
-    Inv-loop
-    μ-loop
-    (λ c κs. search needs)
-    loop-holds
-    range-start-requires
-    at-least-at-requires
-    returns
-    keeps-requires
-    mul-hits
-    element-write-hits
-    (λ c. search needs)
-    (λ c. search needs)
-    (λ c. search needs)
-    loop-again
-    returns-2)
+    (tie.spec Inv-loop μ-loop (λ c κs. search needs) loop-holds range-start-requires at-least-at-requires returns keeps-requires mul-hits
+    element-write-hits (λ c. search needs) (λ c. search needs) (λ c. search needs) loop-again returns-2)

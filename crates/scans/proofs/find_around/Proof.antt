@@ -90,19 +90,5 @@ returns-3 c =
 pub find-around-spec : {M : Type 1} → statement M
 find-around-spec =
     tie.close
-    (tie.spec
-    Inv-loop
-    μ-loop
-    (λ c κs. search needs)
-    (λ c κs. search needs)
-    (λ c κs. search needs)
-    loop-holds
-    range-start-requires
-    at-least-at-requires
-    returns
-    surrounds-requires
-    returns-2
-    (λ c. search needs)
-    (λ c. search needs)
-    loop-again
-    returns-3)
+    (tie.spec Inv-loop μ-loop (λ c κs. search needs) (λ c κs. search needs) (λ c κs. search needs) loop-holds range-start-requires
+    at-least-at-requires returns surrounds-requires returns-2 (λ c. search needs) (λ c. search needs) loop-again returns-3)

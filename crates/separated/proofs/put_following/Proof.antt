@@ -62,19 +62,5 @@ returns c =
 pub put-following-spec : {M : Type 1} → statement M
 put-following-spec =
     tie.close
-    (tie.spec
-    Inv-loop
-    μ-loop
-    loop-holds
-    (λ c. search needs)
-    (λ c. search needs)
-    sub-put-next
-    part-put-next-start
-    (λ c. search needs)
-    put-next-requires
-    add-at
-    (λ c. search needs)
-    (λ c. search needs)
-    loop-again
-    same-length
-    returns)
+    (tie.spec Inv-loop μ-loop loop-holds (λ c. search needs) (λ c. search needs) sub-put-next part-put-next-start (λ c. search needs)
+    put-next-requires add-at (λ c. search needs) (λ c. search needs) loop-again same-length returns)

@@ -42,12 +42,4 @@ returns c =
 pub put-next-spec : {M : Type 1} → statement M
 put-next-spec =
     tie.close
-    (tie.spec
-    slice-write-text
-    sub-put-number
-    part-put-number-start
-    (λ c. search needs)
-    put-number-requires
-    add-result
-    same-length
-    returns)
+    (tie.spec slice-write-text sub-put-number part-put-number-start (λ c. search needs) put-number-requires add-result same-length returns)

@@ -18,12 +18,5 @@ returns-2 c = rw (c .before .before .before .before .enum-told2 .given .1) (c .b
 pub put-number-spec : {M : Type 1} → statement M
 put-number-spec =
     tie.close
-    (tie.spec
-    (λ c. search needs)
-    put-decimal-requires
-    (λ c. search needs)
-    put-hex-requires
-    (λ c. search needs)
-    returns
-    (λ c. search needs)
+    (tie.spec (λ c. search needs) put-decimal-requires (λ c. search needs) put-hex-requires (λ c. search needs) returns (λ c. search needs)
     returns-2)

@@ -62,17 +62,5 @@ returns-2 c =
 pub put-spelled-spec : {M : Type 1} → statement M
 put-spelled-spec =
     tie.close
-    (tie.spec
-    returns
-    (λ c. search needs)
-    put-number-requires
-    (λ c. search needs)
-    (λ c. search needs)
-    (λ c. search needs)
-    sub-put-following-2
-    part-put-following-start-2
-    (λ c. search needs)
-    put-following-requires
-    add-result
-    (λ c. search needs)
-    returns-2)
+    (tie.spec returns (λ c. search needs) put-number-requires (λ c. search needs) (λ c. search needs) (λ c. search needs)
+    sub-put-following-2 part-put-following-start-2 (λ c. search needs) put-following-requires add-result (λ c. search needs) returns-2)

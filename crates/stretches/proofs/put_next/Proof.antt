@@ -57,20 +57,6 @@ returns-2 c =
 pub put-next-spec : {M : Type 1} → statement M
 put-next-spec =
     tie.close
-    (tie.spec
-    (λ c. search needs)
-    (λ c. search needs)
-    (λ c. search needs)
-    (λ c κs. search needs)
-    (λ c. search needs)
-    sub-put-bytes
-    part-put-bytes-start
-    part-put-bytes-end
-    put-bytes-requires
-    (λ c. search needs)
-    returns
-    (λ c κs. search needs)
-    put-bytes-requires-2
-    (λ c. search needs)
-    (λ c. search needs)
-    returns-2)
+    (tie.spec (λ c. search needs) (λ c. search needs) (λ c. search needs) (λ c κs. search needs) (λ c. search needs) sub-put-bytes
+    part-put-bytes-start part-put-bytes-end put-bytes-requires (λ c. search needs) returns (λ c κs. search needs) put-bytes-requires-2
+    (λ c. search needs) (λ c. search needs) returns-2)

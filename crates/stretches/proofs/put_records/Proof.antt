@@ -78,16 +78,5 @@ returns c =
 pub put-records-spec : {M : Type 1} → statement M
 put-records-spec =
     tie.close
-    (tie.spec
-    Inv-loop
-    μ-loop
-    loop-holds
-    sub-put-next
-    part-put-next-start
-    (λ c. search needs)
-    put-next-requires
-    add-at
-    loop-less
-    loop-again
-    same-length
-    returns)
+    (tie.spec Inv-loop μ-loop loop-holds sub-put-next part-put-next-start (λ c. search needs) put-next-requires add-at loop-less loop-again
+    same-length returns)

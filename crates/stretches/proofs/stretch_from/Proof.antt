@@ -60,24 +60,6 @@ add-t20 c = omega (arith, ended c [] .within, call (c .before .before) .pre .4)
 pub stretch-from-spec : {M : Type 1} → statement M
 stretch-from-spec =
     tie.close
-    (tie.spec
-    Inv-loop
-    μ-loop
-    (λ c. search needs)
-    (λ c. search needs)
-    (λ c. search needs)
-    (λ c. search needs)
-    loop-holds
-    (λ c. search needs)
-    (λ c. search needs)
-    (λ c κs. search needs)
-    (λ c κs. search needs)
-    add-end
-    (λ c. reached (c .before))
-    (λ c. reached (c .before .before))
-    (λ c. search needs)
-    (λ c. search needs)
-    loop-again
-    (λ c κs. search needs)
-    add-t20
-    ended)
+    (tie.spec Inv-loop μ-loop (λ c. search needs) (λ c. search needs) (λ c. search needs) (λ c. search needs) loop-holds (λ c. search needs)
+    (λ c. search needs) (λ c κs. search needs) (λ c κs. search needs) add-end (λ c. reached (c .before)) (λ c. reached (c .before .before))
+    (λ c. search needs) (λ c. search needs) loop-again (λ c κs. search needs) add-t20 ended)

@@ -18,14 +18,5 @@ cast-print-hex c = omega (arith, c .before .before .before .shared-slice-known .
 pub say-hex-spec : {M : Type 1} → statement M
 say-hex-spec =
     tie.close
-    (tie.spec
-    Inv-loop
-    μ-loop
-    (λ c. search needs)
-    (λ c. search needs)
-    cast-print-hex
-    (λ c κs. search needs)
-    (λ c. search needs)
-    (λ c. search needs)
-    (λ c. search needs)
-    (λ c. search needs))
+    (tie.spec Inv-loop μ-loop (λ c. search needs) (λ c. search needs) cast-print-hex (λ c κs. search needs) (λ c. search needs)
+    (λ c. search needs) (λ c. search needs) (λ c. search needs))

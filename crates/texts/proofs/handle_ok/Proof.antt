@@ -20,16 +20,6 @@ text-ends-requires-3 c κs = (omega arith, omega arith, omega (arith, texts.beyo
 pub handle-ok-spec : {M : Type 1} → statement M
 handle-ok-spec =
     tie.close
-    (tie.spec
-    text-ends-requires
-    (λ c. search needs)
-    (λ c κs. search needs)
-    (λ c. search needs)
-    (λ c κs. search needs)
-    returns-3
-    (λ c. texts.text-empty _ _ (omega arith))
-    text-ends-requires-3
-    (λ c. search needs)
-    (λ c κs. search needs)
-    (λ c. search needs)
+    (tie.spec text-ends-requires (λ c. search needs) (λ c κs. search needs) (λ c. search needs) (λ c κs. search needs) returns-3
+    (λ c. texts.text-empty _ _ (omega arith)) text-ends-requires-3 (λ c. search needs) (λ c κs. search needs) (λ c. search needs)
     (λ c. texts.text-long _ _ (omega arith)))

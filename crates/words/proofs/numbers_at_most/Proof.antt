@@ -20,11 +20,4 @@ returns-2 c = c .words-at-most .ensures ∙ rw (c .before .before .pair-at .ensu
 pub numbers-at-most-spec : {M : Type 1} → statement M
 numbers-at-most-spec =
     tie.close
-    (tie.spec
-    (λ c κs. search needs)
-    (λ c κs. search needs)
-    returns
-    pair-at-requires
-    pair-at-requires-2
-    (λ c κs. search needs)
-    returns-2)
+    (tie.spec (λ c κs. search needs) (λ c κs. search needs) returns pair-at-requires pair-at-requires-2 (λ c κs. search needs) returns-2)
