@@ -13,7 +13,7 @@ use Rattle.texts.specs.Compare.{alike}
 use Rattle.pattern.specs.Pattern.{matches}
 
 -- the bytes of n from a to b
-abbrev part : List ℕ → ℕ → ℕ → List ℕ
+abbrev pub part : List ℕ → ℕ → ℕ → List ℕ
 part n a b = take (b - a) (drop a n)
 
 module _ (f : Bool) (p q n : List ℕ) where

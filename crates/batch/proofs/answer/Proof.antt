@@ -8,21 +8,27 @@ use borrow.Author.Needs.{needs}
 use Rattle.batch.proofs.answer.Statement.{statement}
 use Rattle.batch.proofs.answer.Tie as tie
 
+abbrev start : tie.After-count-paths → tie.Start
+start c = c .before .before .before .before
+
 returns : tie.Need-returns
 returns c =
-    let start = c .before .before .before .before .before .before in
-    many-paths (pathsOf (now (start .args .text))) (now (start .args .image)) (now (start .args .list)) _ (omega (arith, c .before .if1 .taken, c .before .before .count-paths .ensures))
-    (start .pre .sound) (c .reply .ensures [])
+    let counted = c .before .before in
+    let a = start counted .args in
+    many-paths (pathsOf (now (a .text))) (now (a .image)) (now (a .list)) _ (omega (arith, c .before .if1 .taken, counted .count-paths .ensures))
+    (start counted .pre .sound) (c .reply .ensures [])
 
 answer-paths-requires : tie.Need-answer-paths-requires
-answer-paths-requires c κs = (c .before .before .before .before .before .before .pre, omega (arith, c .before .if1 .left, c .before .before .count-paths .ensures))
+answer-paths-requires c κs = (start (c .before .before) .pre, omega (arith, c .before .if1 .left, c .before .before .count-paths .ensures))
 
 returns-2 : tie.Need-returns-2
 returns-2 c =
-    let start = c .before .before .before .before .before .before .before .before .before .before in
-    paths-answered (pathsOf (now (start .args .text))) (now (start .args .image)) (now (start .args .list)) _
-    (omega (arith, c .before .before .before .before .before .if1 .left, c .before .before .before .before .before .before .count-paths .ensures))
-    (start .pre .sound) (c .before .before .before .answer-paths .ensures) (c .reply2 .ensures)
+    let answered = c .before .before .before in
+    let few = answered .before .before in
+    let counted = few .before in
+    let a = start counted .args in
+    paths-answered (pathsOf (now (a .text))) (now (a .image)) (now (a .list)) _ (omega (arith, few .if1 .left, counted .count-paths .ensures))
+    (start counted .pre .sound) (answered .answer-paths .ensures) (c .reply2 .ensures)
 
 pub answer-spec : {M : Type 1} → statement M
 answer-spec =

@@ -16,6 +16,12 @@ Inv-loop s base max v₀ i₀ v i = (i ≤ length s) × (v ≤ max) × (numeralF
 abbrev μ-loop : tie.MeasureT-loop
 μ-loop s base max v₀ i₀ v i = length s - i
 
+abbrev start : tie.At-loop Inv-loop μ-loop → tie.Start Inv-loop μ-loop
+start c = c .before .before .before
+
+abbrev round : tie.After-digit Inv-loop μ-loop → tie.At-loop Inv-loop μ-loop
+round c = c .before .before .before
+
 returns : tie.Need-returns Inv-loop μ-loop
 returns c = cc (numeral-empty _ _ _ (c .if1 .taken))
 
@@ -24,40 +30,40 @@ loop-holds c = (omega arith, omega arith, numeral-start _ _ _ (c .if1 .left))
 
 returns-2 : tie.Need-returns-2 Inv-loop μ-loop
 returns-2 c =
-    let a = c .before .before .before .before .before .before .before .args in
-    let l = c .before .before .before .before .loop in
+    let l = round (c .before) .loop in
+    let a = start (round (c .before)) .args in
     sym (no-digit (a .base) (a .max) (l .v) (now (a .s)) (l .i) (omega arith) (omega arith)) ∙ l .inv .2
 
 mul-v : tie.Need-mul-v Inv-loop μ-loop
 mul-v c =
-    let a = c .before .before .before .before .before .before .before .args in
-    let l = c .before .before .before .before .loop in
+    let l = round (c .before) .loop in
+    let a = start (round (c .before)) .args in
     omega (arith, value-fits (a .base) (a .max) (l .v) 0 (omega arith) (omega arith) (omega arith) (omega arith))
 
 add-v : tie.Need-add-v Inv-loop μ-loop
 add-v c =
-    let a = c .before .before .before .before .before .before .before .args in
-    let l = c .before .before .before .before .loop in
+    let l = round (c .before) .loop in
+    let a = start (round (c .before)) .args in
     omega (arith, value-fits (a .base) (a .max) (l .v) (c .before .digit .result) (omega arith) (omega arith) (omega arith) (omega arith))
 
 returns-3 : tie.Need-returns-3 Inv-loop μ-loop
 returns-3 c =
-    let a = c .before .before .before .before .before .before .before .before .args in
-    let l = c .before .before .before .before .before .loop in
+    let l = round (c .before .before) .loop in
+    let a = start (round (c .before .before)) .args in
     sym (above-max (a .base) (a .max) (l .v * a .base + digitValue (getD (now (a .s)) (l .i) 0)) (drop (l .i + 1) (now (a .s))) (omega arith) (omega arith))
     ∙ sym (next-digit (a .base) (a .max) (l .v) (now (a .s)) (l .i) (omega arith) (omega arith))
     ∙ l .inv .2
 
 loop-again : tie.Need-loop-again Inv-loop μ-loop
 loop-again c =
-    let a = c .before .before .before .before .before .before .before .before .args in
-    let l = c .before .before .before .before .before .loop in
+    let l = round (c .before .before) .loop in
+    let a = start (round (c .before .before)) .args in
     (omega arith, omega arith, rw (c .before .before .digit .ensures) (sym (next-digit (a .base) (a .max) (l .v) (now (a .s)) (l .i) (omega arith) (omega arith)) ∙ l .inv .2))
 
 returns-4 : tie.Need-returns-4 Inv-loop μ-loop
 returns-4 c =
-    let a = c .before .before .before .before .args in
     let l = c .before .loop in
+    let a = start (c .before) .args in
     sym (numeral-end (a .base) (a .max) (l .v) (l .i) (now (a .s)) (omega arith) (omega arith)) ∙ l .inv .2
 
 pub read-numeral-spec : {M : Type 1} → statement M

@@ -22,6 +22,9 @@ q a = parsedFrom (now (a .args .r))
 abbrev lasts : tie.Start → ℕ → ℕ
 lasts a = openLast (now (a .args .image)) (now (a .args .changes)) (now (a .args .stack))
 
+abbrev start : tie.Else1 → tie.Start
+start c = c .before .before .before .before .before
+
 shared-slice-read-if1 : tie.Need-shared-slice-read-if1
 shared-slice-read-if1 c = omega (arith, own (c .before .before .before .before) .long)
 
@@ -31,16 +34,16 @@ returns c =
     sym (nest-named (lasts a) (a .args .before) (q a) (a .args .depth) (omega (arith, own a .tag-is, c .if1 .taken)))
 
 shared-slice-read-if2 : tie.Need-shared-slice-read-if2
-shared-slice-read-if2 c = omega (arith, own (c .before .before .before .before .before .before) .long)
+shared-slice-read-if2 c = omega (arith, own (start (c .before)) .long)
 
 returns-2 : tie.Need-returns-2
 returns-2 c =
-    let a = c .before .before .before .before .before .before .before in
+    let a = start (c .before .before) in
     sym (nest-other (lasts a) (a .args .before) (q a) (a .args .depth) (λ e. c .if2 .taken (own a .tag-is ∙ sym e)))
 
 nest-requires : tie.Need-nest-requires
 nest-requires c κs =
-    let a = c .before .before .before .before .before .before .before in
+    let a = start (c .before .before) in
     let e = sym (c .if2 .left) ∙ own a .tag-is in
     let h = c .before .before .if1 .left in
     record {
@@ -52,7 +55,7 @@ nest-requires c κs =
 
 returns-3 : tie.Need-returns-3
 returns-3 c =
-    let a = c .before .before .before .before .before .before .before .before in
+    let a = start (c .before .before .before) in
     let h = a-block (q a .tag) (own a .low) (omega (arith, own a .tag-is, c .before .before .before .if1 .left)) in
     c .nest .ensures ∙ sym (nest-family (lasts a) (a .args .before) (q a) (a .args .depth) h (sym (c .before .if2 .left) ∙ own a .tag-is) _ refl)
 

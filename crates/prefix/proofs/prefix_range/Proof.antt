@@ -27,26 +27,32 @@ known c = array-bytes 16 (c .args .first .bytes) _ (c .good .0 .1 .1 .0)
 
 -- what a turn has read: the byte of first before i, and how many of its bits are asked for
 module _ (c : tie.After-wide Inv-loop μ-loop) where
+  abbrev round : tie.At-loop Inv-loop μ-loop
+  round = c .before .before .before .before
+
+  abbrev start : tie.Start Inv-loop μ-loop
+  start = round .before .before
+
   abbrev bytes : List ℕ
-  bytes = c .before .before .before .before .before .before .args .first .bytes
+  bytes = start .args .first .bytes
 
   abbrev i : ℕ
-  i = c .before .before .before .before .loop .i
+  i = round .loop .i
 
   abbrev at : ℕ
   at = i - 1
 
   abbrev left : ℕ
-  left = c .before .before .before .before .loop .left
+  left = round .loop .left
 
   abbrev bits : ℕ
-  bits = c .before .before .before .before .before .before .args .bits - c .before .before .before .before .before .before .args .l
+  bits = start .args .bits - start .args .l
 
   abbrev k : ℕ
   k = c .before .before .byte-bits .result
 
   byte : c .wide .result ≡ getD bytes at 0
-  byte = c .wide .ensures .0 ∙ c .before .before .before .before .loop .inv .3 at (omega arith)
+  byte = c .wide .ensures .0 ∙ round .loop .inv .3 at (omega arith)
 
   size : c .before .power-of-two .result ≡ 2 ^ k
   size = c .before .power-of-two .ensures .0
@@ -59,11 +65,11 @@ module _ (c : tie.After-wide Inv-loop μ-loop) where
 
   turn : low.Turn bytes 16 bits left i k
   turn = record {
-    known = known (c .before .before .before .before .before .before) .1;
-    sized = known (c .before .before .before .before .before .before) .0;
-    within = c .before .before .before .before .loop .inv .0;
+    known = known start .1;
+    sized = known start .0;
+    within = round .loop .inv .0;
     fits = omega arith;
-    passed = c .before .before .before .before .loop .inv .1;
+    passed = round .loop .inv .1;
     more = omega arith;
     asked = c .before .before .byte-bits .ensures;
   }
@@ -88,7 +94,7 @@ cast-last c =
 
 loop-again : tie.Need-loop-again Inv-loop μ-loop
 loop-again c =
-    let o = c .before .before .before .before .before .loop in
+    let o = round (c .before) .loop in
     let t = turn (c .before) in (
       omega arith,
       low.turn-left t,

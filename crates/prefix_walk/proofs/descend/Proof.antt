@@ -52,30 +52,37 @@ last-of-requires c κs =
     let capped = c .before .before .before .before in
     (capped .cap .ensures .0, largest capped .zeros, walk.ends-inside 128 (below (start capped)) (largest capped))
 
+-- written, and its end known
+abbrev entry-at : tie.After-last-of → tie.After-put-entry
+entry-at c = c .before .before .before
+
+abbrev cap-at : tie.After-last-of → tie.After-cap
+cap-at c = entry-at c .before .before
+
 returns : tie.Need-returns
 returns c =
     let end = c .before .before in
-    let capped = end .before .before .before .before .before in
+    let capped = cap-at end in
     let last = leb-true _ _ (sym (c .before .words-at-most .ensures) ∙ c .if1 .taken) in
     let one = walk.last-one 128 (below (start capped)) (largest capped) (end .last-of .ensures) last in
-    rw one (all-entered (one-entered (end .before .before .before .put-entry .ensures)))
+    rw one (all-entered (one-entered (entry-at end .put-entry .ensures)))
 
 -- it ends before the range does
-not-yet : (c : tie.Else1) → numberOf (c .before .before .last-of .result) < numberOf (start (c .before .before .before .before .before .before .before) .args .last)
+not-yet : (c : tie.Else1) → numberOf (c .before .before .last-of .result) < numberOf (start (cap-at (c .before .before)) .args .last)
 not-yet c = leb-false _ _ (sym (c .before .words-at-most .ensures) ∙ c .if1 .left)
 
 after-requires : tie.Need-after-requires
 after-requires c κs =
-    let capped = c .before .before .before .before .before .before .before .before in
+    let capped = cap-at (c .before .before .before) in
     (largest capped .zeros, walk.not-all 128 (below (start capped)) (largest capped) (c .before .before .before .last-of .ensures) (not-yet (c .before)))
 
 -- the others
 module _ (c : tie.After-after) where
-  abbrev capped : tie.After-cap
-  capped = c .before .before .before .before .before .before .before .before .before
-
   abbrev end : tie.After-last-of
   end = c .before .before .before .before
+
+  abbrev capped : tie.After-cap
+  capped = cap-at end
 
   more : walked (start capped .args .first) (start capped .args .last)
       ≡ prefix (numberOf (start capped .args .first)) (capped .cap .result) ∷ fallen (c .after .result) (c .before .remaining2 .result)
@@ -83,8 +90,8 @@ module _ (c : tie.After-after) where
       let e = same-last _ _ _ _ _ (end .last-of .ensures) (c .after .ensures) (c .before .remaining2 .ensures) in
       walk.one-more 128 (below (start capped)) (largest capped) (c .after .ensures) ∙ rw e
 
-  first-entered : Entered (start capped .args .width) (walked (start capped .args .first) (start capped .args .last)) (fallen (c .after .result) (c .before .remaining2 .result)) (now (start capped .args .out)) (c .before .before .before .before .before .before .before .put-entry .last .1 .1 .1 .0) (start capped .args .width + 1) 1
-  first-entered = rw more (one-entered (c .before .before .before .before .before .before .before .put-entry .ensures))
+  first-entered : Entered (start capped .args .width) (walked (start capped .args .first) (start capped .args .last)) (fallen (c .after .result) (c .before .remaining2 .result)) (now (start capped .args .out)) (entry-at end .put-entry .last .1 .1 .1 .0) (start capped .args .width + 1) 1
+  first-entered = rw more (one-entered (entry-at end .put-entry .ensures))
 
   falling : Falling (start capped .args .width) (c .after .result) (c .before .remaining2 .result)
   falling = record {
@@ -108,7 +115,7 @@ part-fall-start c = omega (arith, roomy (capped c), kept-length (first-entered c
 fall-requires : tie.Need-fall-requires
 fall-requires c κs =
     let next = c .before in
-    (falling next, omega (arith, rest-fits (first-entered next .reached) (start (capped next) .pre .2), rest-length (next .before .before .before .before .before .before .before .put-entry .last .1 .1 .1 .0) (start (capped next) .args .width + 1)))
+    (falling next, omega (arith, rest-fits (first-entered next .reached) (start (capped next) .pre .2), rest-length (entry-at (end next) .put-entry .last .1 .1 .1 .0) (start (capped next) .args .width + 1)))
 
 add-result : tie.Need-add-result
 add-result c =
