@@ -5,6 +5,7 @@ ghost use lib.ListN.{length};
 ghost use Rattle.registry.specs.Limits.{mostImage};
 use libc::STDERR_FILENO;
 use libc::STDOUT_FILENO;
+use registry::MOST_COUNT;
 use registry::MOST_IMAGE;
 
 // What is wrong: parts of a line on standard error.
@@ -47,7 +48,7 @@ fn tell_defect_words(defect: u32, place: u32) {
         1 => tell(b"it is longer than 262144 bytes"),
         2 => tell(b"it does not start with the bytes 01 00 01 01"),
         3 => {
-            if place < 4096 {
+            if place < MOST_COUNT {
                 tell(b"it is cut short or has an unknown tag");
             } else {
                 tell(b"it comes after 4096 others");

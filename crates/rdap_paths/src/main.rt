@@ -14,6 +14,8 @@ use files::read_whole;
 use files::small_room;
 use files::tell;
 use files::write_out;
+use registry::MOST_RECORDS;
+use registry::PerRecord;
 
 // The output: what was put stands at the start of a buffer of 32,768 bytes and room for a line.
 
@@ -29,7 +31,7 @@ fn make_room(out: &[u8; 77868], at: usize) -> usize
 }
 
 // Answers a path, and puts its line there. Gives where the line ends.
-fn put_answer(path: &[u8], image: &[u8], list: &mut [u32; 4096], out: &mut [u8], at: usize) -> usize
+fn put_answer(path: &[u8], image: &[u8], list: &mut PerRecord, out: &mut [u8], at: usize) -> usize
     requires { ⌜ at + longestLine ≤ length (now out) ⌝ }
     ensures { λ r. ⌜ Written (take at (now (out .entry)) ++ lineOf (now (path .entry)) (now (image .entry))) (now (out .entry)) (now (out .exit)) r ⌝ }
 {
@@ -56,7 +58,7 @@ fn end_line(
     line: &[u8],
     kept: Kept,
     image: &[u8],
-    list: &mut [u32; 4096],
+    list: &mut PerRecord,
     out: &mut [u8; 77868],
 ) -> Kept {
     let at = make_room(out, kept.out);
@@ -71,7 +73,7 @@ fn take_byte(
     line: &mut [u8; 1025],
     kept: Kept,
     image: &[u8],
-    list: &mut [u32; 4096],
+    list: &mut PerRecord,
     out: &mut [u8; 77868],
 ) -> Kept {
     if b == b'\n' {
@@ -88,7 +90,7 @@ fn take_bytes(
     line: &mut [u8; 1025],
     before: Kept,
     image: &[u8],
-    list: &mut [u32; 4096],
+    list: &mut PerRecord,
     out: &mut [u8; 77868],
 ) -> Kept {
     let mut kept = before;
@@ -105,7 +107,7 @@ fn take_read(
     line: &mut [u8; 1025],
     kept: Kept,
     image: &[u8],
-    list: &mut [u32; 4096],
+    list: &mut PerRecord,
     out: &mut [u8; 77868],
 ) -> Kept {
     let n = io::count(got, chunk);
@@ -117,7 +119,7 @@ fn finish(
     line: &mut [u8; 1025],
     kept: Kept,
     image: &[u8],
-    list: &mut [u32; 4096],
+    list: &mut PerRecord,
     out: &mut [u8; 77868],
 ) {
     let len = kept.line;
@@ -132,7 +134,7 @@ fn finish(
 // Answers the paths of a file whose first bytes are read. The turns are counted down from a number that no run uses up.
 fn answer_lines(fd: i32, name: &[u8], chunk: &mut [u8], first: isize, image: &[u8]) {
     let mut line = [0u8; 1025];
-    let mut list = [0u32; 4096];
+    let mut list = [0u32; MOST_RECORDS];
     let mut out = [0u8; 77868];
     let mut kept = Kept { line: 0, out: 0 };
     let mut got = first;

@@ -5,6 +5,8 @@
 ghost use Prim.Native.Nat.{_<_};
 use files::part;
 use libc::STDOUT_FILENO;
+use registry::MOST_RECORDS;
+use registry::PerRecord;
 use registry::Relation;
 
 fn number(n: u32) {
@@ -93,7 +95,7 @@ fn read_file(name: &[u8], room: &mut [u8; 4096]) -> usize {
     n
 }
 
-fn run_files(image: &mut [u8; 4096], cases: &mut [u8; 4096], list: &mut [u32; 4096]) {
+fn run_files(image: &mut [u8; 4096], cases: &mut [u8; 4096], list: &mut PerRecord) {
     let m = read_file(b"campus.image", image);
     let n = read_file(b"relations", cases);
     run_cases(part(image, 0, m), part(cases, 0, n), list);
@@ -102,6 +104,6 @@ fn run_files(image: &mut [u8; 4096], cases: &mut [u8; 4096], list: &mut [u32; 40
 fn main() {
     let mut image = [0u8; 4096];
     let mut cases = [0u8; 4096];
-    let mut list = [0u32; 4096];
+    let mut list = [0u32; MOST_RECORDS];
     run_files(&mut image, &mut cases, &mut list);
 }

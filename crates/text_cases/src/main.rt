@@ -11,12 +11,14 @@
 // A line that begins with # is only repeated.
 ghost use Prim.Native.Nat.{_≤_};
 ghost use lib.ListN.{length};
+ghost use Rattle.registry.specs.Limits.{mostPath, mostHost};
 use files::part;
 use ip::Family;
 use libc::STDIN_FILENO;
 use libc::STDOUT_FILENO;
 use numeral::Number;
 use pattern::Form;
+use registry::MOST_PATH;
 use registry::Text;
 use segment::TargetRead;
 use text_segment::NameRead;
@@ -59,7 +61,7 @@ fn say_target(t: TargetRead) {
 
 // A/L, cut at the first slash.
 fn say_prefix(s: &[u8])
-    requires { ⌜ length (now s) ≤ 1024 ⌝ }
+    requires { ⌜ length (now s) ≤ mostPath ⌝ }
 {
     let j = pieces::first_piece(s, b'/');
     if j == s.len() {
@@ -70,7 +72,7 @@ fn say_prefix(s: &[u8])
 }
 
 fn say_name(n: NameRead)
-    requires { ⌜ n .len ≤ 253 ⌝ }
+    requires { ⌜ n .len ≤ mostHost ⌝ }
 {
     if !n.ok {
         say(b"no");
@@ -96,7 +98,7 @@ fn say_form(form: Form) {
 
 // A pattern, which a space and a name may follow.
 fn say_pattern(text: Text, s: &[u8])
-    requires { ⌜ length (now s) ≤ 1024 ⌝ }
+    requires { ⌜ length (now s) ≤ mostPath ⌝ }
 {
     let j = pieces::first_piece(s, b' ');
     let read = text_segment::read_pattern(text, part(s, 0, j));
@@ -163,15 +165,15 @@ fn say_bytes(s: &[u8]) {
 }
 
 fn say_decoded(s: &[u8])
-    requires { ⌜ length (now s) ≤ 1024 ⌝ }
+    requires { ⌜ length (now s) ≤ mostPath ⌝ }
 {
-    let mut buffer = [0u8; 1024];
+    let mut buffer = [0u8; MOST_PATH];
     let n = uri::decode(s, &mut buffer);
     say_hex(part(&buffer, 0, n));
 }
 
 fn say_found(letter: u8, s: &[u8])
-    requires { ⌜ length (now s) ≤ 1024 ⌝ }
+    requires { ⌜ length (now s) ≤ mostPath ⌝ }
 {
     match letter {
         b'a' => say_target(segment::read_address_segment(s)),
@@ -199,7 +201,7 @@ fn run_line(line: &[u8]) {
         say(b"\n");
         return;
     }
-    if 1024 < line.len() {
+    if MOST_PATH < line.len() {
         say(b" -> too long\n");
         return;
     }
