@@ -1,4 +1,6 @@
 // The call that writes the text of an address to a lent buffer.
+#![tactic(auto)]
+
 ghost use Rattle.std.specs.Prelude.{◌≡◌, length};
 ghost use Rattle.octets.specs.Positions.{Wide};
 ghost use Rattle.ip_text.specs.Text.{text_of};

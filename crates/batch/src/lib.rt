@@ -1,4 +1,6 @@
 // Many paths in one call (S2.5), on an image that is checked already.
+#![tactic(auto)]
+
 ghost use Rattle.image.specs.Image.{image_of};
 ghost use Rattle.image.specs.Index.{Indexed};
 ghost use Rattle.answers.specs.Answered.{AnsweredBy};

@@ -1,4 +1,6 @@
 // One path of a batch, on an image that is checked already: its answer is written to the front of a list.
+#![tactic(auto)]
+
 ghost use Rattle.std.specs.Prelude.{◌≤◌, ◌≡◌, [], ◌++◌, length, drop};
 ghost use Rattle.image.specs.Image.{image_of};
 ghost use Rattle.image.specs.Index.{Indexed};

@@ -1,4 +1,6 @@
 // The paths of a batch: counted, and answered one after another on an image that is checked already, each into the rest of the list.
+#![tactic(auto)]
+
 ghost use Rattle.std.specs.Prelude.{◌≤◌, ◌≡◌, length};
 ghost use Rattle.registry.specs.Limits.{most_paths};
 ghost use Rattle.image.specs.Image.{image_of};

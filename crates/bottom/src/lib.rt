@@ -1,4 +1,6 @@
 // Bottom over a sound image: each block of the family is tested by a walk over its own children, which stops at the first address left over.
+#![tactic(auto)]
+
 ghost use Rattle.std.specs.Prelude.{◌≡◌, suc, ◌≤◌, ◌<◌, max, min, length};
 ghost use Rattle.registry.specs.Limits.{most_records};
 ghost use Rattle.address.specs.Address.{numbers};

@@ -1,4 +1,6 @@
 // Where a key stands among the records of an image and those that a change file adds.
+#![tactic(auto)]
+
 ghost use Rattle.std.specs.Prelude.{◌≡◌, take};
 ghost use Rattle.records.specs.Record.{follows};
 ghost use Rattle.changes.specs.Change.{keyed, is_there};

@@ -1,4 +1,6 @@
 // Which record of a sound image has a name or a handle.
+#![tactic(auto)]
+
 ghost use Rattle.std.specs.Prelude.{◌≡◌, ◌+◌, ◌<◌, length};
 ghost use Rattle.octets.specs.Order.{compared};
 ghost use Rattle.records.specs.Positions.{Inside};

@@ -1,4 +1,6 @@
 // Which records of a sound image match a pattern.
+#![tactic(auto)]
+
 ghost use Rattle.std.specs.Prelude.{◌≡◌, length};
 ghost use Rattle.registry.specs.Limits.{most_records};
 ghost use Rattle.records.specs.Positions.{Inside};

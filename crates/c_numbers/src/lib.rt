@@ -1,4 +1,6 @@
 // The numbers that the functions for C write: of an answer, of a part of the image, of what was written to a buffer, of a fold.
+#![tactic(auto)]
+
 ghost use Rattle.std.specs.Prelude.{◌≡◌, [], ◌≤◌};
 ghost use Rattle.registry.specs.Limits.{most_image};
 ghost use Rattle.changes.specs.Fold.{Folding};

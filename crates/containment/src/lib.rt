@@ -1,4 +1,6 @@
 // Whether a block's range, where it stands in an image, covers a range or lies inside it.
+#![tactic(auto)]
+
 ghost use Rattle.std.specs.Prelude.{◌≡◌, ◌+◌, ◌*◌, ◌≤◌, ◌<◌, length};
 ghost use Rattle.octets.specs.Positions.{number_in};
 ghost use Rattle.address.specs.Address.{number, numbers};

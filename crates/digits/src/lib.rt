@@ -1,4 +1,6 @@
 // A number in digits, written to the front of a lent buffer.
+#![tactic(auto)]
+
 ghost use Rattle.std.specs.Prelude.{◌≡◌, ◌≤◌, ◌<◌, length};
 ghost use Rattle.numeral.specs.Digits.{digit_of, numeral_text, decimal_text, hex_text};
 ghost use Rattle.output.specs.Writing.{Written};

@@ -1,4 +1,6 @@
 // The records of a sound image by their tags and numbers: those with a tag, and the range, the handle or the name of one.
+#![tactic(auto)]
+
 ghost use Rattle.std.specs.Prelude.{◌≡◌, ◌≤◌};
 ghost use Rattle.registry.specs.Tags.{entity};
 ghost use Rattle.image.specs.Image.{image_of};

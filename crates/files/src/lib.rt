@@ -1,4 +1,6 @@
 // What the programs do alike: a file is read whole, output is written, and what is wrong is told on standard error.
+#![tactic(auto)]
+
 ghost use Rattle.std.specs.Prelude.{◌≡◌, ◌+◌, ◌≤◌, ◌<◌, length};
 ghost use Rattle.registry.specs.Limits.{most_image};
 

@@ -1,4 +1,6 @@
 // The filter of a network for a router (S12.7): its text is written to the start of a lent buffer.
+#![tactic(auto)]
+
 ghost use Rattle.std.specs.Prelude.{[], ◌≤◌, ◌<◌, length};
 ghost use Rattle.octets.specs.Positions.{Wide};
 ghost use Rattle.output.specs.Writing.{Written};

@@ -1,4 +1,6 @@
 // The final image of a fold: judged by the index of its records, and written to a lent buffer.
+#![tactic(auto)]
+
 ghost use Rattle.std.specs.Prelude.{◌≡◌, true, ◌≤◌, ◌<◌, length, take};
 ghost use Rattle.registry.specs.Limits.{most_image};
 ghost use Rattle.image.specs.Image.{starts_right};

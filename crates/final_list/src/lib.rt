@@ -1,4 +1,6 @@
 // The final list of a change file by the index of its starts; a record of it by its number, for the program.
+#![tactic(auto)]
+
 ghost use Rattle.std.specs.Prelude.{◌≡◌, [], length};
 ghost use Rattle.image.specs.Index.{Indexed};
 ghost use Rattle.changes.specs.Limits.{most_entries};

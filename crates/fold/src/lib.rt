@@ -1,4 +1,6 @@
 // A change file folded into an image: the final image is written to a lent buffer.
+#![tactic(auto)]
+
 ghost use Rattle.std.specs.Prelude.{◌≡◌, length};
 ghost use Rattle.image.specs.Index.{Indexed};
 ghost use Rattle.changes.specs.Fold.{bad_change, fold_of};

@@ -1,4 +1,6 @@
 // Texts folded, and compared with and without folding.
+#![tactic(auto)]
+
 ghost use Rattle.std.specs.Prelude.{◌≡◌, false, map, ◌≤◌, eqb, length, take};
 ghost use Rattle.texts.specs.Host.{fold, without_final_dot};
 ghost use Rattle.texts.specs.Compare.{fold_if, alike};

@@ -1,4 +1,6 @@
 // The names and the templates of router filters (S12.7).
+#![tactic(auto)]
+
 ghost use Rattle.std.specs.Prelude.{◌≡◌, cond, [], ◌+◌, ◌-◌, ◌≤◌, ◌<◌, length, take, drop};
 ghost use Rattle.octets.specs.Ascii.{code};
 ghost use Rattle.output.specs.Writing.{Written};

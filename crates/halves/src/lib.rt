@@ -1,4 +1,6 @@
 // The search by halves: the middle of what is left. The law of the search is in proofs/Halves.antt.
+#![tactic(auto)]
+
 ghost use Rattle.std.specs.Prelude.{◌+◌, ◌-◌, ◌/◌, ◌≤◌, ◌<◌};
 
 // The middle of what is left to a search by halves: at most half of it lies before, and at most half behind.

@@ -2,6 +2,8 @@
 //
 // The bytes of a name of at most 63 bytes are tested in runs of a fixed size with no early way out, which the compiler turns into vector
 // instructions.
+#![tactic(auto)]
+
 ghost use Rattle.std.specs.Prelude.{◌≡◌, not, ◌&&◌, ◌+◌, ◌-◌, ◌≤◌, ◌<◌, length};
 ghost use Rattle.octets.specs.Lists.{within};
 ghost use Rattle.texts.specs.Texts.{good_host};

@@ -3,6 +3,8 @@
 // The file `defects` holds images one after another: the length in two bytes, high byte first, then the image.
 // For each image one line with defect and place, 0 0 for a sound one; then a line for each of its records and for the number after the last:
 // where its handle starts, its handle, where its name starts, its name.
+#![tactic(auto)]
+
 ghost use Rattle.std.specs.Prelude.{◌≤◌, ◌<◌};
 
 use files::image_room;

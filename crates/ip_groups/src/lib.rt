@@ -1,4 +1,6 @@
 // The numbers of an address: its octets, the groups of IPv6, and the runs of zeros among them.
+#![tactic(auto)]
+
 ghost use Rattle.std.specs.Prelude.{◌≡◌, length};
 ghost use Rattle.ip_groups.specs.Groups.{groups_of};
 ghost use Rattle.ip_groups.specs.Runs.{RunsOf};

@@ -1,4 +1,6 @@
 // The text of an address, written to the front of a lent buffer: IPv4 as four decimals, IPv6 in the form of RFC 5952.
+#![tactic(auto)]
+
 ghost use Rattle.std.specs.Prelude.{◌≡◌, ◌++◌, ◌+◌, ◌≤◌, length};
 ghost use Rattle.octets.specs.Ascii.{ascii};
 ghost use Rattle.octets.specs.Positions.{Wide};

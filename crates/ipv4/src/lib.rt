@@ -1,4 +1,6 @@
 // The text of an IPv4 address.
+#![tactic(auto)]
+
 ghost use Rattle.std.specs.Prelude.{◌≡◌, ◌++◌, ◌+◌, ◌≤◌, take};
 ghost use Rattle.octets.specs.Lists.{found};
 ghost use Rattle.ipv4.specs.Ipv4.{ipv4};

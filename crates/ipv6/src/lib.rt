@@ -1,4 +1,6 @@
 // The text of an IPv6 address.
+#![tactic(auto)]
+
 ghost use Rattle.std.specs.Prelude.{◌≡◌, [], ◌∷◌, ◌++◌, false, true, ◌+◌, ◌/◌, ◌%◌, ◌≤◌, length, take, drop};
 ghost use Rattle.octets.specs.Ascii.{code};
 ghost use Rattle.octets.specs.Split.{split};

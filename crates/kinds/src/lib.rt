@@ -1,4 +1,6 @@
 // The kind of an answer, and its number.
+#![tactic(auto)]
+
 ghost use Rattle.std.specs.Prelude.{◌≡◌};
 ghost use Rattle.kinds.specs.Numbers.{kind_number, which_relation};
 

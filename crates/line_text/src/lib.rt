@@ -1,4 +1,6 @@
 // The output line of an answer: its text is written to the start of a lent buffer.
+#![tactic(auto)]
+
 ghost use Rattle.std.specs.Prelude.{◌+◌, ◌*◌, ◌≤◌, length, take};
 ghost use Rattle.answers.specs.Answered.{reply_of};
 ghost use Rattle.output.specs.Writing.{Written};

@@ -1,4 +1,6 @@
 // The output line of a path: its text is written to the start of a lent buffer.
+#![tactic(auto)]
+
 ghost use Rattle.lines.specs.Lined.{reply_to, Lined};
 
 use line_text::put_line;

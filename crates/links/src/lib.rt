@@ -1,5 +1,7 @@
 // Links over the blocks of a family: from each block to the first later one that does not lie inside it. A walk by them goes over a block's
 // own children.
+#![tactic(auto)]
+
 ghost use Rattle.std.specs.Prelude.{◌≡◌, ◌+◌, ◌<◌, length};
 ghost use Rattle.registry.specs.Limits.{most_records};
 ghost use Rattle.scans.specs.Standing.{blocks_in};

@@ -1,4 +1,6 @@
 // The records of an image and those that a change file adds, by one index of starts, in the order of their keys.
+#![tactic(auto)]
+
 ghost use Rattle.std.specs.Prelude.{◌≡◌, ◌∷◌, ◌++◌, ◌+◌, ◌-◌, ◌≤◌, ◌<◌, length, take, drop};
 ghost use Rattle.registry.specs.Limits.{most_image, most_records};
 ghost use Rattle.changes.specs.Limits.{most_entries};

@@ -1,4 +1,6 @@
 // Ranges of blocks where they stand: how two are sorted, and one among those of the open blocks.
+#![tactic(auto)]
+
 ghost use Rattle.std.specs.Prelude.{◌≡◌, ◌+◌, ◌*◌, ◌≤◌, length};
 ghost use Rattle.octets.specs.Positions.{Wide};
 ghost use Rattle.address.specs.Ranges.{sorts_after};

@@ -1,5 +1,7 @@
 // The next prefix of a range (S2.6): the zero bits at the low end of the first address that is left decide, capped by what remains. An address
 // is two words.
+#![tactic(auto)]
+
 ghost use Rattle.std.specs.Prelude.{◌≡◌, suc, ◌+◌, ◌^◌, ◌%◌, ◌≤◌, ◌<◌, eqb, length};
 ghost use Rattle.std.specs.Int.Count.{count_trailing_zeros};
 ghost use Rattle.octets.specs.Words.{number_of};

@@ -1,5 +1,7 @@
 // Bytes as lists: how two texts sort, and a number as two words. The rest are definitions and laws.
 
+#![tactic(auto)]
+
 // An address as two words of eight bytes, high word first.
 #[derive(Drop)]
 pub struct Words {

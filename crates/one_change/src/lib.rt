@@ -1,4 +1,6 @@
 // One change of a file, read and judged by itself.
+#![tactic(auto)]
+
 ghost use Rattle.std.specs.Prelude.{◌≡◌, ◌≤◌, length};
 ghost use Rattle.registry.specs.Tags.{entity, ipv4_network};
 ghost use Rattle.registry.specs.Limits.{most_image, most_records};

@@ -1,4 +1,6 @@
 // Record numbers reported to a lent list, and bytes written to a lent buffer.
+#![tactic(auto)]
+
 ghost use Rattle.std.specs.Prelude.{◌≤◌, length};
 ghost use Rattle.registry.specs.Limits.{most_records};
 ghost use Rattle.output.specs.Listing.{found_numbers, Reported};

@@ -1,4 +1,6 @@
 // The final image judged by the index of its records, without being made: too long, too many records, or an overlap.
+#![tactic(auto)]
+
 ghost use Rattle.std.specs.Prelude.{◌≡◌, true, ◌+◌, ◌≤◌, length, take};
 ghost use Rattle.registry.specs.Tags.{as_block};
 ghost use Rattle.registry.specs.Limits.{most_records};

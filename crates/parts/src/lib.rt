@@ -1,4 +1,6 @@
 // The parts of a record, each handed back as a part of the image itself (S2.2, S2.7). Each checks the image.
+#![tactic(auto)]
+
 ghost use Rattle.parts.specs.HandedBack.{HandedBack};
 
 use registry::Part;

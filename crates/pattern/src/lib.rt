@@ -1,4 +1,6 @@
 // Patterns: read, and matched against handles, names and host names.
+#![tactic(auto)]
+
 ghost use Rattle.std.specs.Prelude.{◌≡◌};
 ghost use Rattle.octets.specs.Ascii.{code};
 ghost use Rattle.octets.specs.Lists.{every};

@@ -1,4 +1,6 @@
 // A record placed after the one before it and among the open blocks (defects 6 and 7).
+#![tactic(auto)]
+
 ghost use Rattle.std.specs.Prelude.{◌≡◌, ltb};
 ghost use Rattle.nesting.specs.declared.Nesting.TheVariants.{Under};
 ghost use Rattle.placing.specs.Step.{step_in, BlockRoom, block_step, Coming, step_on};

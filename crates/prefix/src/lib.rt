@@ -1,4 +1,6 @@
 // The range of a prefix, at every width up to sixteen bytes.
+#![tactic(auto)]
+
 ghost use Rattle.std.specs.Prelude.{◌≡◌, ◌≤◌, ◌<◌, min};
 ghost use Rattle.octets.specs.Lists.{found};
 ghost use Rattle.address.specs.Address.{number, numbers};

@@ -1,4 +1,6 @@
 // The entry of a prefix in a list: its first address and its length, written to the front of a lent buffer.
+#![tactic(auto)]
+
 ghost use Rattle.std.specs.Prelude.{◌≡◌, ◌+◌, ◌*◌, ◌^◌, ◌≤◌, ◌<◌, length, get_or, take};
 ghost use Rattle.octets.specs.Positions.{Wide};
 ghost use Rattle.octets.specs.Words.{number_of};

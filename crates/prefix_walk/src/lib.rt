@@ -1,4 +1,6 @@
 // The prefixes of a range of addresses, written one after another to the front of a lent buffer.
+#![tactic(auto)]
+
 ghost use Rattle.std.specs.Prelude.{◌≤◌, length};
 ghost use Rattle.cidr.specs.First.{Capped};
 ghost use Rattle.next_prefix.specs.Walked.{words_range, walked};

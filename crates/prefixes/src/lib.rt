@@ -1,4 +1,6 @@
 // A range of addresses as prefixes (S2.6), written to a lent buffer.
+#![tactic(auto)]
+
 ghost use Rattle.std.specs.Prelude.{◌≡◌, ◌*◌, length};
 ghost use Rattle.octets.specs.Positions.{Wide};
 ghost use Rattle.next_prefix.specs.Walked.{walked};

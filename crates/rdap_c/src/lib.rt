@@ -1,4 +1,6 @@
 // The library for C: each function writes its numbers to an array that the caller lends. include/rdap.h declares them.
+#![tactic(auto)]
+
 ghost use Rattle.std.specs.Prelude.{◌≡◌, length};
 ghost use Rattle.image.specs.Entries.{span_of};
 ghost use Rattle.answers.specs.Reply.{list_after, list_after_call};

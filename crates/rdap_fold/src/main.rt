@@ -4,6 +4,8 @@
 //
 // The final image goes to a new file beside OUTPUT, which is then renamed to OUTPUT: who reads OUTPUT finds the old image or the new one.
 // Its number of bytes goes to standard output. IMAGE has at most 262,144 bytes, CHANGES at most 65,536.
+#![tactic(auto)]
+
 mod known;
 
 ghost use Rattle.std.specs.Prelude.{◌≤◌, ◌<◌, length};

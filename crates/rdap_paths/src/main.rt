@@ -4,6 +4,8 @@
 //
 // For each path one line: status, reason, kind, count and the record numbers, as `200 0 2 1 0`.
 // PATHS is read in a stream and may be of any length. IMAGE has at most 65,536 bytes.
+#![tactic(auto)]
+
 ghost use Rattle.std.specs.Prelude.{◌+◌, ◌≤◌, ◌<◌, ◌++◌, length, take};
 ghost use Rattle.lines.specs.Lined.{longest_line, line_of};
 ghost use Rattle.output.specs.Writing.{Written};

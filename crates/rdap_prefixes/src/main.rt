@@ -4,6 +4,8 @@
 //
 // One list for each active network, in image order; with --all for the others too. FORMAT is plain, cisco, bird, juniper or json.
 // IMAGE has at most 262,144 bytes. If two lists would have the same name, a router would keep one of them: then nothing is written.
+#![tactic(auto)]
+
 mod names;
 mod networks;
 

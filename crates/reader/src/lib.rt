@@ -1,4 +1,6 @@
 // The reader, which walks fields. It never passes the end of the slice that it is given.
+#![tactic(auto)]
+
 ghost use Rattle.std.specs.Prelude.{◌≡◌, length};
 ghost use Rattle.fields.specs.Positions.{field_at, field_after, end_between};
 

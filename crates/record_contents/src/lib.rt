@@ -1,4 +1,6 @@
 // What defect 5 asks of a record: its texts, and of a block the status and the range.
+#![tactic(auto)]
+
 ghost use Rattle.std.specs.Prelude.{◌≡◌, ◌≤◌, length};
 ghost use Rattle.std.proofs.Math.Seq.{slice};
 ghost use Rattle.registry.specs.Tags.{as_block};

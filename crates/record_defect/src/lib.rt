@@ -1,4 +1,6 @@
 // The lowest defect of a record that is refused: its fields read again, whatever their length.
+#![tactic(auto)]
+
 ghost use Rattle.std.specs.Prelude.{◌≡◌, ◌+◌, ◌≤◌, cond, length};
 ghost use Rattle.std.proofs.Math.Seq.{slice};
 ghost use Rattle.registry.specs.Tags.{entity, ipv4_network};

@@ -1,4 +1,6 @@
 // One record judged by itself: defects 3 to 5.
+#![tactic(auto)]
+
 ghost use Rattle.std.specs.Prelude.{◌≤◌, length};
 ghost use Rattle.record_judgement.specs.Judging.{Judging};
 

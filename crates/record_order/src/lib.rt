@@ -1,4 +1,6 @@
 // The order of records that are no blocks.
+#![tactic(auto)]
+
 ghost use Rattle.std.specs.Prelude.{◌≡◌, ◌+◌, ◌≤◌, ◌<◌, not, length};
 ghost use Rattle.registry.specs.Tags.{as_block, head_length};
 ghost use Rattle.octets.specs.Number.{at_most};

@@ -1,4 +1,6 @@
 // The fields of a record, as a good one has them.
+#![tactic(auto)]
+
 ghost use Rattle.std.specs.Prelude.{◌≡◌, ◌*◌, ◌≤◌, length};
 ghost use Rattle.registry.specs.Tags.{width_of, as_block, entity, ipv4_network};
 ghost use Rattle.fields.specs.Positions.{field_at, end_between};

@@ -1,4 +1,6 @@
 // The words that the path and the image share: the tags of records, what a record has, the relations, the limits.
+#![tactic(auto)]
+
 ghost use Rattle.std.specs.Prelude.{◌≡◌, ◌≤◌};
 ghost use Rattle.registry.specs.Tags.{width_of};
 

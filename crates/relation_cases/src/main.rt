@@ -2,6 +2,8 @@
 //
 // The file `relations` holds cases of seven bytes, numbers high byte first: the record number in four, the relation in one (1 up, 2 down, 3 top, 4 bottom), the places of the list in two.
 // All are asked of the image in the file `campus.image`.
+#![tactic(auto)]
+
 ghost use Rattle.std.specs.Prelude.{◌<◌};
 
 use files::part;

@@ -1,4 +1,6 @@
 // Lookup, up, top, down and bottom over a sound image, reported to a lent list.
+#![tactic(auto)]
+
 ghost use Rattle.std.specs.Prelude.{true, ◌≡◌, ◌≤◌, length};
 ghost use Rattle.registry.specs.Limits.{most_records};
 ghost use Rattle.registry.specs.Tags.{is_block};

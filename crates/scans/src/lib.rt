@@ -1,5 +1,7 @@
 // Lookup, up, top and down over a sound image, and whether bottom has an answer, each by one pass over the records of a tag, which are sorted
 // by their first address.
+#![tactic(auto)]
+
 ghost use Rattle.std.specs.Prelude.{◌≡◌, ◌+◌, ◌≤◌, ◌<◌, length, get_or};
 ghost use Rattle.registry.specs.Tags.{range_offset};
 ghost use Rattle.registry.specs.Limits.{most_image, most_records};

@@ -1,4 +1,6 @@
 // Numbers in digits with a separator between them, written to the front of a lent buffer.
+#![tactic(auto)]
+
 ghost use Rattle.std.specs.Prelude.{[], ◌∷◌, ◌≤◌, length};
 ghost use Rattle.numeral.specs.Digits.{numeral_text, following, spelled};
 ghost use Rattle.output.specs.Writing.{Written};

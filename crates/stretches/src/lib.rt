@@ -1,4 +1,6 @@
 // The records of an index written one after another: those that stand so in the image in one stretch.
+#![tactic(auto)]
+
 ghost use Rattle.std.specs.Prelude.{◌≡◌, ◌≤◌, ◌<◌, length, get_or, take, drop};
 ghost use Rattle.registry.specs.Limits.{most_image};
 ghost use Rattle.output.specs.Writing.{Written};

@@ -9,6 +9,8 @@
 //   s bytes of a path and query: whether they are allowed, and whether an escape is from %80 up
 //   x escapes: the decoded bytes
 // A line that begins with # is only repeated.
+#![tactic(auto)]
+
 ghost use Rattle.std.specs.Prelude.{◌≤◌, length};
 ghost use Rattle.registry.specs.Limits.{most_path, most_host};
 

@@ -1,6 +1,8 @@
 // Handles and names: what they may hold.
 //
 // The bytes of a handle or a name are tested in runs of a fixed size with no early way out, which the compiler turns into vector instructions.
+#![tactic(auto)]
+
 ghost use Rattle.std.specs.Prelude.{◌≡◌, ◌+◌, ◌≤◌, length};
 ghost use Rattle.texts.specs.Texts.{good_text};
 ghost use Rattle.texts.specs.Run.{run, text_at};

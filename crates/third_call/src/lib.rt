@@ -1,4 +1,6 @@
 // The third call on an image that is checked already: a relation of the block that a record number names.
+#![tactic(auto)]
+
 ghost use Rattle.image.specs.Image.{image_of};
 ghost use Rattle.image.specs.Index.{Indexed};
 ghost use Rattle.answers.specs.Answered.{AnsweredBy};

@@ -1,4 +1,6 @@
 // Bytes read together, in words of four and eight, and compared.
+#![tactic(auto)]
+
 ghost use Rattle.std.specs.Prelude.{◌≡◌, ◌+◌, ◌*◌, ◌^◌, ◌≤◌, ◌<◌, ◌/◌, ◌%◌, leb, length, get_or, drop};
 ghost use Rattle.octets.specs.Number.{at_most};
 ghost use Rattle.octets.specs.Order.{compared};

@@ -5,13 +5,9 @@ use native.Mathlib.Nat.{one-mul}
 use native.Mathlib.Omega.{arith}
 use lib.Pow.{shl_exact, pow_pos}
 use borrow.Author.Rules.{rules}
-use Rattle.words.proofs.power_of_two.Statement.{statement}
-use Rattle.words.proofs.power_of_two.Tie as tie
+use Rattle.words.proofs.power_of_two.Goals as goal
 
-returns : tie.Need-returns
+pub returns : goal.returns
 returns c =
     let e = shl_exact {a = 1} 1 c.args.k 64 (omega arith) (omega arith) ∙ one-mul (2 ^ c.args.k) in
     (e, omega (arith, pow_pos c.args.k))
-
-pub power-of-two-spec : {M : Type 1} → statement M
-power-of-two-spec = tie.close (tie.spec (λ c. search rules) returns)

@@ -1,0 +1,16 @@
+-- The loop's invariant: what is left from i on decides. A word of eight bytes of each passes, or ends it.
+use mathlib.Core.Path.{◌≡◌, ◌∙◌}
+use Prim.Native.Nat.{◌≤◌, ◌-◌}
+use lib.ListN.{length, drop}
+use native.Mathlib.Omega.{arith}
+use Rattle.octets.specs.Number.{Bytes}
+use Rattle.octets.specs.Order.{compared}
+use Rattle.octets.proofs.Parts as words
+use borrow.Author.Rules.{rules}
+use Rattle.words.proofs.compare.Given as goal
+
+abbrev pub invariant-loop-i : goal.invariant-loop-i
+invariant-loop-i l = (l.i ≤ l.n) × (l.n ≤ length l.a) × (l.n ≤ length l.b) × (compared (drop l.i l.a) (drop l.i l.b) ≡ compared l.a l.b)
+
+abbrev pub decreases-loop-i : goal.decreases-loop-i
+decreases-loop-i l = l.n - l.i

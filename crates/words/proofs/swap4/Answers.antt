@@ -1,0 +1,10 @@
+-- The sum fits, and is the definition's.
+use mathlib.Core.Path.{refl}
+use native.Mathlib.Omega.{arith}
+use Rattle.octets.specs.Words.{swap4_of}
+use borrow.Author.Rules.{rules}
+use Rattle.words.proofs.swap4.Goals as goal
+
+pub returns : goal.returns
+unfolding swap4_of
+returns c = (refl, omega arith)
