@@ -1,0 +1,7 @@
+-- The order of the words is that of the numbers.
+use mathlib.Core.Path.{◌∙◌}
+use borrow.Author.Rules.{rules}
+use Rattle.address.proofs.at_most.Goals as goal
+
+pub returns : goal.returns
+returns c = c.words_at_most.ensures ∙ rw (c.words_of.ensures, c.words_of-2.ensures)
