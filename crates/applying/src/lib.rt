@@ -68,7 +68,7 @@ fn remove<'a>(
 }
 
 // How many records there are after the changes, or the offset of the first change that cannot be applied.
-#[derive(Drop)]
+#[derive(Clone, Copy)]
 pub enum Applied {
     Done(usize),
     RefusedAt(usize),

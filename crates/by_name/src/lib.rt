@@ -28,7 +28,7 @@ fn compare_at(image: &[u8], at: usize, which: Part, wanted: &[u8], steps: &mut u
 }
 
 // What a search by halves found, and how many comparisons it took.
-#[derive(Drop)]
+#[derive(Clone, Copy)]
 struct Sought {
     found: Found,
     steps: u32,

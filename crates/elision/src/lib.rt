@@ -8,7 +8,7 @@ ghost use Rattle.octets.specs.Lists.{found};
 ghost use Rattle.elision.specs.Elision.{elided, elision_first, elision};
 
 // The bytes of an address, where ok says that there are any.
-#[derive(Drop)]
+#[derive(Clone, Copy)]
 pub struct Ipv6 {
     pub ok: bool,
     pub bytes: [u8; 16],

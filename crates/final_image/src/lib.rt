@@ -17,7 +17,7 @@ use overlaps::final_verdict;
 use stretches::put_records;
 
 // What a fold answers, beside the buffer.
-#[derive(Drop)]
+#[derive(Clone, Copy)]
 pub struct Folded {
     pub reason: u32,
     pub count: u32,

@@ -11,7 +11,7 @@ use output::put_bytes;
 use pieces::{between, has_byte, is_word};
 
 // How the prefixes are written.
-#[derive(Drop)]
+#[derive(Clone, Copy)]
 pub enum Format {
     Plain,
     Cisco,

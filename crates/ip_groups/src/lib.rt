@@ -6,7 +6,7 @@ ghost use Rattle.ip_groups.specs.Groups.{groups_of};
 ghost use Rattle.ip_groups.specs.Runs.{RunsOf};
 
 // The zeros that stand first, and the longest run of zeros with its place.
-#[derive(Drop)]
+#[derive(Clone, Copy)]
 pub struct ZeroRuns {
     pub first: usize,
     pub longest: usize,

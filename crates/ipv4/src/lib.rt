@@ -8,7 +8,7 @@ ghost use Rattle.ipv4.specs.Ipv4.{ipv4};
 use numeral::Number;
 
 // The bytes, where ok says that there are any.
-#[derive(Drop)]
+#[derive(Clone, Copy)]
 pub struct Ipv4 {
     pub ok: bool,
     pub bytes: [u8; 4],

@@ -15,7 +15,7 @@ use ipv4::{put_ipv4, read_ipv4};
 use numeral::Number;
 
 // The first len bytes are those of the groups read; ok is false where a group is malformed or there are more than 16 bytes.
-#[derive(Drop)]
+#[derive(Clone, Copy)]
 struct Groups {
     ok: bool,
     bytes: [u8; 16],

@@ -7,7 +7,7 @@ ghost use Rattle.kinds.specs.Numbers.{kind_number, which_relation};
 use registry::Relation;
 
 // What was asked; None where a refusal has none.
-#[derive(Drop)]
+#[derive(Clone, Copy)]
 pub enum Kind {
     None,
     Ip,

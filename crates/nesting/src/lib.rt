@@ -10,7 +10,7 @@ ghost use Rattle.nesting.specs.Nest.{nest_of, open_last, NestRoom};
 use words::numbers_at_most;
 
 // A block among the open blocks of its tag: under so many of them, or it overlaps one without lying inside it.
-#[derive(Drop)]
+#[derive(Clone, Copy)]
 pub enum Nesting {
     Under(usize),
     Crossing,

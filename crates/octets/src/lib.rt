@@ -3,14 +3,14 @@
 #![tactic(auto)]
 
 // An address as two words of eight bytes, high word first.
-#[derive(Drop)]
+#[derive(Clone, Copy)]
 pub struct Words {
     pub high: u64,
     pub low: u64,
 }
 
 // How two texts sort.
-#[derive(Drop)]
+#[derive(Clone, Copy)]
 pub enum Ordering {
     Less,
     Equal,

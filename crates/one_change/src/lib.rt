@@ -62,7 +62,7 @@ pub fn good_removal(r: &[u8]) -> bool
 }
 
 // A change, whose contents go from start up to end.
-#[derive(Drop)]
+#[derive(Clone, Copy)]
 pub enum Change {
     Add { start: usize, end: usize },
     Remove { start: usize, end: usize },

@@ -7,14 +7,14 @@ ghost use Rattle.output.specs.Listing.{found_numbers, Reported};
 ghost use Rattle.output.specs.Writing.{Written};
 
 // The number of a record, if there is one.
-#[derive(Drop)]
+#[derive(Clone, Copy)]
 pub enum Found {
     At(u32),
     Nothing,
 }
 
 // How many record numbers were written, or how many places are needed.
-#[derive(Drop)]
+#[derive(Clone, Copy)]
 pub enum Listed {
     Done(u32),
     Full(u32),
@@ -61,7 +61,7 @@ pub fn put_bytes(s: &[u8], out: &mut [u8]) -> usize
 }
 
 // The reason of a call that writes to a lent buffer, and how much was written, or is needed (reason 9).
-#[derive(Drop)]
+#[derive(Clone, Copy)]
 pub struct Counted {
     pub reason: u32,
     pub count: u32,

@@ -11,7 +11,7 @@ ghost use Rattle.pattern.specs.Pattern.{is_host, longest, pattern_byte, is_patte
 use registry::{MOST_HOST, MOST_TEXT, Text};
 
 // What a pattern's asterisks make of it: none, or one that is supported, at this place; and the two refusals, reason 7 and reason 6.
-#[derive(Drop)]
+#[derive(Clone, Copy)]
 pub enum Form {
     Exact,
     Asterisk(usize),

@@ -11,7 +11,7 @@ use records::Layout;
 use registry::{AS_BLOCK, HEAD, IPV6_NETWORK};
 
 // A record after the one before it: it fits under so many open blocks, or what its defect is.
-#[derive(Drop)]
+#[derive(Clone, Copy)]
 pub enum Stepped {
     Fits(usize),
     Bad(u32),

@@ -10,7 +10,7 @@ use address::{Address, AddressRange};
 use words::{power_of_two, wide};
 
 // The range of a prefix, where ok says that there is one.
-#[derive(Drop)]
+#[derive(Clone, Copy)]
 pub struct Prefix {
     pub ok: bool,
     pub range: AddressRange,

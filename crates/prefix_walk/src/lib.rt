@@ -13,7 +13,7 @@ use prefix_bytes::put_entry;
 use words::words_at_most;
 
 // Where the climbing ended: the next address, where its entry goes, and how many entries are written.
-#[derive(Drop)]
+#[derive(Clone, Copy)]
 struct Stop {
     start: Words,
     at: usize,

@@ -15,7 +15,7 @@ use prefix_walk::write;
 use words::{words_at, words_at_most};
 
 // Whether the entries fit in a buffer; if they do not, how many there are.
-#[derive(Drop)]
+#[derive(Clone, Copy)]
 enum Fit {
     Enough,
     Short(u32),

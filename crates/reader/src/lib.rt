@@ -6,7 +6,7 @@ ghost use Rattle.fields.specs.Positions.{field_at, field_after, end_between};
 
 use fields::{End, Field, step_after, step_to};
 
-#[derive(Drop)]
+#[derive(Clone, Copy)]
 pub struct Reader<'a> {
     pub image: &'a [u8],
     pub at: usize,

@@ -11,7 +11,7 @@ use records::Layout;
 use registry::{ENTITY, IPV4_NETWORK};
 
 // The position of field 22, or the lowest defect.
-#[derive(Drop)]
+#[derive(Clone, Copy)]
 pub enum Judgement {
     Good(usize),
     Bad(u32),

@@ -25,7 +25,7 @@ fn key_after(a: &[u8], p: Span, b: &[u8], r: Span) -> bool
 }
 
 // What two records are sorted by.
-#[derive(Drop)]
+#[derive(Clone, Copy)]
 struct Keys {
     first: Span,
     second: Span,

@@ -11,7 +11,7 @@ use reader::read_to;
 use registry::{AS_BLOCK, HEAD, IPV6_NETWORK};
 
 // Where the fields of a record lie: the contents of field 21 from `from` up to middle, where field 22 starts, which ends at `to`.
-#[derive(Drop)]
+#[derive(Clone, Copy)]
 pub enum Shape {
     Whole {
         from: usize,

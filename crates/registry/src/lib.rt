@@ -44,7 +44,7 @@ pub const RANGE_OFFSET: usize = 6;
 pub type PerRecord = [u32; MOST_RECORDS];
 
 // What a text of the registry is: a handle (field 21), a name (field 22), or the host name in field 22 of records 13 and 14.
-#[derive(Drop)]
+#[derive(Clone, Copy)]
 pub enum Text {
     Handle,
     Name,
@@ -52,14 +52,14 @@ pub enum Text {
 }
 
 // The parts of a record that are handed back.
-#[derive(Drop)]
+#[derive(Clone, Copy)]
 pub enum Part {
     Range,
     Handle,
     Name,
 }
 
-#[derive(Drop)]
+#[derive(Clone, Copy)]
 pub enum Relation {
     Up,
     Down,

@@ -18,7 +18,7 @@ use registry::{MOST_RECORDS, PerRecord, Relation};
 use scans::{Around, find_around};
 
 // What is asked of the blocks of a family and a range.
-#[derive(Drop)]
+#[derive(Clone, Copy)]
 pub enum Finding {
     Lookup,
     Relation(Relation),

@@ -29,7 +29,7 @@ pub fn range_start(starts: &PerRecord, number: u32) -> usize
 }
 
 // Which of the blocks around a range is asked: the last that covers it, the last strictly around it, or the first such.
-#[derive(Drop)]
+#[derive(Clone, Copy)]
 pub enum Around {
     Lookup,
     Up,

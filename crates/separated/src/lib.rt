@@ -8,7 +8,7 @@ ghost use Rattle.separated.specs.Base.{radix};
 
 use digits::{put_decimal, put_hex};
 
-#[derive(Drop)]
+#[derive(Clone, Copy)]
 pub enum Base {
     Decimal,
     Hex,

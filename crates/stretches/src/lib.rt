@@ -13,7 +13,7 @@ use merged::{field_bytes, record_at};
 use output::put_bytes;
 
 // Records that stand one after another in the image: where the last of them ends, and the number of the first behind them.
-#[derive(Drop)]
+#[derive(Clone, Copy)]
 struct Stretch {
     end: usize,
     until: usize,
@@ -53,7 +53,7 @@ fn stretch_from(image: &[u8], index: &PerEntry, n: usize, i: usize) -> Stretch
 }
 
 // What was put: how many bytes, and the number of the first record that is left.
-#[derive(Drop)]
+#[derive(Clone, Copy)]
 struct Put {
     size: usize,
     until: usize,

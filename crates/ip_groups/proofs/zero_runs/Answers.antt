@@ -20,8 +20,8 @@ first_now c =
     let l = c.loop-i in
     let some_left : 0 < l.i = search rules in
     elim c.if-groups-i-eq0.branch [
-      then-groups-i-eq0 w ↦ w.first-is ∙ zero-before some_left l.invariant.0 l.invariant.1 w.if-groups-i-eq0.true
-    | else-groups-i-eq0 w ↦ w.first-is ∙ other-before some_left l.invariant.0 l.invariant.1 w.if-groups-i-eq0.false
+      | then-groups-i-eq0 w ↦ w.first-is ∙ zero-before some_left l.invariant.0 l.invariant.1 w.if-groups-i-eq0.true
+      | else-groups-i-eq0 w ↦ w.first-is ∙ other-before some_left l.invariant.0 l.invariant.1 w.if-groups-i-eq0.false
     ]
 
 pub loop-i-preserved-then-longest-first : goal.loop-i-preserved-then-longest-first

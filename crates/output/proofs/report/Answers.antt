@@ -7,12 +7,13 @@ use lib.ListN.{length, take, drop, length-set}
 use Rattle.output.proofs.Replies.{copied_next, full-reply, done-reply}
 use borrow.Author.Rules.{rules}
 use Rattle.output.proofs.report.Goals as goal
+use Rattle.output.proofs.report.Goals.{else-room-need, then-room-need}
 
 pub loop-i-init : goal.loop-i-init
 loop-i-init c = (
   omega arith,
-  ⊎_elim (λ w. omega arith) (λ w. omega arith) c.if-room-need.branch,
-  ⊎_elim (λ w. omega arith) (λ w. omega arith) c.if-room-need.branch,
+  (elim c.if-room-need.branch [ then-room-need w ↦ omega arith | else-room-need w ↦ omega arith ]),
+  (elim c.if-room-need.branch [ then-room-need w ↦ omega arith | else-room-need w ↦ omega arith ]),
   refl,
   refl,
 )
@@ -34,7 +35,7 @@ returns-then-written-need c =
     let l = c.loop-i in
     let came = c.if-room-need.branch in
     let less = c.if-written-need.true in
-    full-reply a.hits.now a.list.now l.i (⊎_elim (λ w. omega arith) (λ w. omega arith) came) (⊎_elim (λ w. omega arith) (λ w. omega arith) came) l.invariant.4
+    full-reply a.hits.now a.list.now l.i ((elim came [ then-room-need w ↦ omega arith | else-room-need w ↦ omega arith ])) ((elim came [ then-room-need w ↦ omega arith | else-room-need w ↦ omega arith ])) l.invariant.4
 
 pub returns : goal.returns
 returns c =
@@ -42,4 +43,4 @@ returns c =
     let l = c.loop-i in
     let came = c.if-room-need.branch in
     let all = c.if-written-need.false in
-    done-reply a.hits.now a.list.now l.i (⊎_elim (λ w. omega arith) (λ w. omega arith) came) (⊎_elim (λ w. omega arith) (λ w. omega arith) came) l.invariant.4
+    done-reply a.hits.now a.list.now l.i ((elim came [ then-room-need w ↦ omega arith | else-room-need w ↦ omega arith ])) ((elim came [ then-room-need w ↦ omega arith | else-room-need w ↦ omega arith ])) l.invariant.4
