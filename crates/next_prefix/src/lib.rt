@@ -58,7 +58,7 @@ fn top_bit(v: u64) -> u32
 }
 
 // The highest bit of a number, and the number without it.
-#[derive(Drop)]
+#[derive(Clone, Copy)]
 pub struct Split {
     pub free: u32,
     pub rest: Words,
@@ -160,7 +160,7 @@ pub fn after(start: Words, free: u32) -> Words
 }
 
 // The next prefix: how many of its bits are free, and its last address.
-#[derive(Drop)]
+#[derive(Clone, Copy)]
 struct Step {
     free: u32,
     end: Words,

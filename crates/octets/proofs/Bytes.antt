@@ -1,6 +1,6 @@
 -- What owning an array of n bytes tells: it has n elements, and each is a byte.
-use mathlib.Core.Path.{◌≡◌, refl, ap, subst}
-use mathlib.Core.List.{List, [], ◌∷◌, map}
+use mathlib.Core.Path.{◌≡◌}
+use mathlib.Core.List.{List, [], ◌∷◌}
 use Prim.Native.Nat.{ℕ, zero, suc}
 use native.Mathlib.Nat.{le_of_suc-le-suc, not-suc-le-zero}
 use mir.Syntax.{w8}
@@ -18,11 +18,6 @@ each-byte (x ∷ xs) [] o i h = absurd o
 each-byte (x ∷ xs) (u ∷ us) o zero h = o.0.1
 each-byte (x ∷ xs) (u ∷ us) o (suc i) h = each-byte xs us o.1 i (le_of_suc-le-suc h)
 
-same : (xs : List ℕ) → map (λ v. v) xs ≡ xs
-same [] = refl
-same (x ∷ xs) = ap (x ∷◌) (same xs)
-
--- of an array that is a struct's field, which the logic has as this `map`
-pub array_bytes : (n : ℕ) (xs : List ℕ) (vs : List Val) → Is (Array (UInt w8) n) (map (λ v. v) xs) vs → (length xs ≡ n) × Bytes xs
-array_bytes n xs vs o =
-    subst (λ (l : List ℕ). (length l ≡ n) × Bytes l) (same xs) (o.1.0.1, each-byte (map (λ v. v) xs) o.0 o.1.1)
+-- of an array, also of one that is a struct's field
+pub array_bytes : (n : ℕ) (xs : List ℕ) (vs : List Val) → Is (Array (UInt w8) n) xs vs → (length xs ≡ n) × Bytes xs
+array_bytes n xs vs o = (o.1.0.1, each-byte xs o.0 o.1.1)

@@ -6,13 +6,6 @@ use borrow.Author.Rules.{rules}
 use Rattle.numeral.specs.Numeral.{digit_value, numeral, numeral_from}
 use Rattle.numeral.proofs.Laws.{value-fits, above-max, next_digit, no_digit, numeral-empty, numeral-start, numeral-end}
 use Rattle.numeral.proofs.read_numeral.Goals as goal
-use Rattle.numeral.proofs.read_numeral.Goals.{After-digit-d, At-loop-i, Start}
-
-abbrev start : At-loop-i → Start
-start c = c@3
-
-abbrev round : After-digit-d → At-loop-i
-round c = c@3
 
 pub returns-then-s-eq0 : goal.returns-then-s-eq0
 returns-then-s-eq0 c = cc (numeral-empty _ _ _ c.if-s-eq0.true)
@@ -22,38 +15,38 @@ loop-i-init c = (omega arith, omega arith, numeral-start _ _ _ c.if-s-eq0.false)
 
 pub returns-then-d-base : goal.returns-then-d-base
 returns-then-d-base c =
-    let l = (round (goal.at.returns-then-d-base c).After-digit-d).loop in
-    let a = (start (round (goal.at.returns-then-d-base c).After-digit-d)).args in
-    sym (no_digit a.base a.max l.v a.s.now l.i (omega arith) (omega arith)) ∙ l.inv.2
+    let l = c.loop-i in
+    let a = c.args in
+    sym (no_digit a.base a.max l.v a.s.now l.i (omega arith) (omega arith)) ∙ l.invariant.2
 
 pub overflow_mul-v : goal.overflow_mul-v
 overflow_mul-v c =
-    let l = (round (goal.at.overflow_mul-v c).After-digit-d).loop in
-    let a = (start (round (goal.at.overflow_mul-v c).After-digit-d)).args in
+    let l = c.loop-i in
+    let a = c.args in
     omega (arith, value-fits a.base a.max l.v 0 (omega arith) (omega arith) (omega arith) (omega arith))
 
 pub overflow_add-v : goal.overflow_add-v
 overflow_add-v c =
-    let l = (round (goal.at.overflow_add-v c).After-digit-d).loop in
-    let a = (start (round (goal.at.overflow_add-v c).After-digit-d)).args in
+    let l = c.loop-i in
+    let a = c.args in
     omega (arith, value-fits a.base a.max l.v c.digit-d.result (omega arith) (omega arith) (omega arith) (omega arith))
 
 pub returns-then-v-max : goal.returns-then-v-max
 returns-then-v-max c =
-    let l = (round (goal.at.returns-then-v-max c).After-digit-d).loop in
-    let a = (start (round (goal.at.returns-then-v-max c).After-digit-d)).args in
+    let l = c.loop-i in
+    let a = c.args in
     sym (above-max a.base a.max (l.v * a.base + digit_value (get_or a.s.now l.i 0)) (drop (l.i + 1) a.s.now) (omega arith) (omega arith))
     ∙ sym (next_digit a.base a.max l.v a.s.now l.i (omega arith) (omega arith))
-    ∙ l.inv.2
+    ∙ l.invariant.2
 
 pub loop-i-preserved : goal.loop-i-preserved
 loop-i-preserved c =
-    let l = (round (goal.at.loop-i-preserved c).After-digit-d).loop in
-    let a = (start (round (goal.at.loop-i-preserved c).After-digit-d)).args in
-    (omega arith, omega arith, rw c.digit-d.ensures (sym (next_digit a.base a.max l.v a.s.now l.i (omega arith) (omega arith)) ∙ l.inv.2))
+    let l = c.loop-i in
+    let a = c.args in
+    (omega arith, omega arith, rw c.digit-d.ensures (sym (next_digit a.base a.max l.v a.s.now l.i (omega arith) (omega arith)) ∙ l.invariant.2))
 
 pub returns : goal.returns
 returns c =
     let l = c.loop-i in
-    let a = (start (goal.at.returns c).At-loop-i).args in
+    let a = c.args in
     sym (numeral-end a.base a.max l.v l.i a.s.now (omega arith) (omega arith)) ∙ l.invariant.2

@@ -1,0 +1,19 @@
+-- The sorting first, then the open blocks.
+use mathlib.Core.Path.{sym, ◌∙◌, ap₂}
+use borrow.Author.Tests.{not-true, not-false}
+use Rattle.placing.specs.Step.{step_in}
+use borrow.Author.Rules.{rules}
+use Rattle.placing.proofs.block_after.Goals as goal
+
+pub returns-then-not-range_after : goal.returns-then-not-range_after
+returns-then-not-range_after c = rw (sym c.range_after.ensures ∙ c.if-not-range_after.true)
+
+pub returns-in-Under : goal.returns-in-Under
+returns-in-Under c =
+    ap₂ step_in (sym (c.if-not-range_after.false) ∙ c.range_after.ensures)
+    (sym c.in-Under.is ∙ c.nest.ensures)
+
+pub returns-in-Crossing : goal.returns-in-Crossing
+returns-in-Crossing c =
+    ap₂ step_in (sym (c.if-not-range_after.false) ∙ c.range_after.ensures)
+    (sym c.in-Crossing.is ∙ c.nest.ensures)

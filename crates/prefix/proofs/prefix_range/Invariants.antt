@@ -1,0 +1,20 @@
+-- The loop's invariant: of first the bits passed are zero, and last is first with those bits set; one turn is a law of `LowBits`.
+use mathlib.Core.Path.{◌≡◌, refl, sym, ◌∙◌}
+use mathlib.Core.List.{List}
+use Prim.Native.Nat.{ℕ, ◌+◌, ◌-◌, ◌*◌, ◌^◌, ◌%◌, ◌≤◌, ◌<◌}
+use native.Mathlib.Omega.{arith}
+use lib.ListN.{length, get_or, length-set}
+use lib.Seq.{get_or-set_other}
+use Rattle.octets.specs.Number.{value, Bytes}
+use Rattle.octets.proofs.Bytes.{array_bytes}
+use Rattle.prefix.proofs.LowBits as low
+use borrow.Author.Rules.{rules}
+use Rattle.prefix.proofs.prefix_range.Given as goal
+
+abbrev pub invariant-loop-left : goal.invariant-loop-left
+invariant-loop-left l = (l.i ≤ 16) × (l.left ≡ l.bits - l.l - 8 * (16 - l.i)) × (length l.last ≡ 16) × ((j : ℕ) → j < l.i → get_or l.last j 0 ≡ get_or l.first.bytes j 0)
+    × (value l.first.bytes % 2 ^ (l.bits - l.l - l.left) ≡ 0)
+    × (value l.last + 1 ≡ value l.first.bytes + 2 ^ (l.bits - l.l - l.left))
+
+abbrev pub decreases-loop-left : goal.decreases-loop-left
+decreases-loop-left l = l.left

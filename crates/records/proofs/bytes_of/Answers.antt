@@ -1,0 +1,7 @@
+-- A part of the image.
+use borrow.Author.Rules.{rules}
+use Rattle.fields.specs.Slices.{part_slice}
+use Rattle.records.proofs.bytes_of.Goals as goal
+
+pub returns : goal.returns
+returns c = part_slice _ _ _ c.requires.forward
