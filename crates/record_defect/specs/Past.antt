@@ -2,7 +2,6 @@
 use Rattle.std.specs.Prelude.{cond, List, ℕ, suc, eqb}
 use Rattle.fields.specs.Positions.{field_at}
 use Rattle.fields.specs.declared.Field.{Field}
-use Rattle.fields.specs.declared.Field.TheVariants as Field
 
 -- where the field of a tag ends that is read; past the end, if it has another tag or there is none
 abbrev pub past : ℕ → ℕ → Field → ℕ

@@ -1,6 +1,5 @@
 -- Half of what is left, rounded down.
 use native.Mathlib.Omega.{arith}
-use borrow.Author.Rules.{rules}
 use Rattle.halves.proofs.middle.Goals as goal
 
 pub returns : goal.returns

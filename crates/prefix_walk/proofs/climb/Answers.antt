@@ -1,4 +1,4 @@
-use Prim.Native.Nat.{◌+◌, ◌-◌, ◌^◌, ◌≤◌, ◌<◌}
+use Prim.Native.Nat.{◌+◌, ◌^◌, ◌≤◌, ◌<◌}
 use mathlib.Core.Path.{◌≡◌, sym, ◌∙◌}
 use mathlib.Core.List.{◌∷◌}
 use native.Mathlib.Nat.{le_of_lt}
@@ -13,7 +13,6 @@ use Rattle.cidr.proofs.Greedy.{first-prefix}
 use Rattle.cidr.proofs.Step as step
 use Rattle.cidr.proofs.Theorem.{at-most_254}
 use Rattle.next_prefix.specs.Walked.{words_range, walked}
-use Rattle.prefix_walk.specs.Entries.{Entered}
 use Rattle.next_prefix.proofs.Walk as walk
 use Rattle.prefix_walk.proofs.Writing.{nothing-entered, entry-inside, few-entered, entered, entry-fits}
 use borrow.Author.Rules.{rules}

@@ -1,5 +1,5 @@
 -- The first prefix, and those of what it leaves.
-use Prim.Native.Nat.{◌+◌, ◌-◌, ◌^◌, ◌≤◌, ◌<◌}
+use Prim.Native.Nat.{◌+◌, ◌^◌, ◌≤◌, ◌<◌}
 use mathlib.Core.Path.{◌≡◌, sym, ◌∙◌}
 use mathlib.Core.List.{◌∷◌}
 use native.Mathlib.Omega.{arith}
@@ -69,7 +69,7 @@ module _ (c : After-after) where
       let e = same-last _ _ _ _ _ c.last_of-end.ensures c.after.ensures c.remaining-number.ensures in
       walk.one_more 128 (walk.wide {h = c.args.last.high} {l = c.args.last.low} (search rules) (search rules)) (largest (goal.at.slice_bounds-fall-count c).After-cap-free) c.after.ensures ∙ rw e
 
-  first-entered : Entered c.args.width (walked c.args.first c.args.last) (fallen c.after.result c.remaining-number.result) c.args.out.now c.put_entry.last.1.1.1.0 (c.args.width + 1) 1
+  first-entered : Entered c.args.width (walked c.args.first c.args.last) (fallen c.after.result c.remaining-number.result) c.args.out.now c.put_entry.new.out (c.args.width + 1) 1
   first-entered = rw more (one-entered c.put_entry.ensures)
 
   falling : Falling c.args.width c.after.result c.remaining-number.result
@@ -93,7 +93,7 @@ slice_bounds-fall-start c = omega (arith, roomy (goal.at.slice_bounds-fall-start
 
 pub fall-requires : goal.fall-requires
 fall-requires c =
-    (falling (goal.at.fall-requires c).After-after, omega (arith, rest-fits (first-entered (goal.at.fall-requires c).After-after).reached c.requires.2, rest-length c.put_entry.new.1.1.1.0 (c.args.width + 1)))
+    (falling (goal.at.fall-requires c).After-after, omega (arith, rest-fits (first-entered (goal.at.fall-requires c).After-after).reached c.requires.2, rest-length c.put_entry.new.out (c.args.width + 1)))
 
 pub overflow_add-result : goal.overflow_add-result
 overflow_add-result c =

@@ -1,19 +1,6 @@
 -- The loop's invariant: the bits that are left decide (Falling), the first entries are written (Entered), and the others are those of what is left.
-use Prim.Native.Nat.{ℕ, ◌+◌, ◌-◌, ◌^◌, ◌≤◌, ◌<◌}
-use mathlib.Core.Path.{◌≡◌, sym, subst, ◌∙◌}
-use mathlib.Core.List.{List, ◌∷◌}
-use native.Mathlib.Omega.{arith}
-use borrow.Author.Tests.{eqb-true, eqb-false, not-true, not-false}
-use lib.ListN.{length}
-use lib.Pow.{pow_pos}
 use Rattle.octets.specs.Words.{number_of}
-use Rattle.output.proofs.Writing.{rest-length, kept-length}
-use Rattle.cidr.specs.Prefixes.{Prefix, prefix, from-to, prefixes_of}
-use Rattle.cidr.proofs.Greedy.{first-prefix}
 use Rattle.prefix_walk.specs.Entries.{fallen, Falling, Entered}
-use Rattle.prefix_walk.proofs.Falling as falling
-use Rattle.prefix_walk.proofs.Writing.{nothing-entered, entry-inside, few-entered, entered, all-entered}
-use borrow.Author.Rules.{rules}
 use Rattle.prefix_walk.proofs.fall.Given as goal
 
 abbrev pub invariant-loop-start : goal.invariant-loop-start

@@ -8,13 +8,12 @@ use Rattle.next_prefix.specs.Walked.{walked}
 use Rattle.prefix_bytes.proofs.Widths.{at-most-sixteen}
 use Rattle.prefix_walk.proofs.Writing.{both-listed}
 use Rattle.prefix_walk.proofs.Few.{few}
-use borrow.Author.Rules.{rules}
 use Rattle.prefix_walk.proofs.write.Goals as goal
 use Rattle.prefix_walk.proofs.write.Goals.{After-climb-stop}
 
 -- where the climbing ended
 module _ (c : After-climb-stop) where
-  inside : c.climb-stop.result.at + length (entries_of c.args.width (walked c.climb-stop.result.start c.args.last)) ≤ length c.climb-stop.new.1.1.1.0
+  inside : c.climb-stop.result.at + length (entries_of c.args.width (walked c.climb-stop.result.start c.args.last)) ≤ length c.climb-stop.new.out
   inside = rest-fits c.climb-stop.ensures.entered.reached c.requires.1
 
 pub slice_bounds-descend-count : goal.slice_bounds-descend-count
@@ -28,7 +27,7 @@ descend-requires c =
     let o = c.requires.0 in (
       record { wide = o.wide; forward = c.climb-stop.ensures.forward; below = o.below },
       c.climb-stop.ensures.capped,
-      omega (arith, inside (goal.at.descend-requires c).After-climb-stop, rest-length c.climb-stop.new.1.1.1.0 c.climb-stop.result.at),
+      omega (arith, inside (goal.at.descend-requires c).After-climb-stop, rest-length c.climb-stop.new.out c.climb-stop.result.at),
     )
 
 pub overflow_add-result : goal.overflow_add-result

@@ -2,7 +2,6 @@
 use mathlib.Core.Path.{◌∙◌}
 use Rattle.fields.specs.Slices.{part_slice}
 use Rattle.records.specs.Record.{good_name}
-use borrow.Author.Rules.{rules}
 use Rattle.record_contents.proofs.name_ok.Goals as goal
 
 pub returns-then-tag : goal.returns-then-tag

@@ -2,7 +2,6 @@
 use mathlib.Core.Path.{◌≡◌, sym, ◌∙◌, ap}
 use mathlib.Core.List.{List}
 use Prim.Native.Nat.{ℕ, ◌-◌, ◌≤◌}
-use borrow.Author.Tests.{not-true, not-false}
 use native.Mathlib.Omega.{arith}
 use lib.ListN.{take, drop}
 use Rattle.texts.specs.Texts.{good_text}
@@ -10,7 +9,6 @@ use Rattle.records.specs.Record.{good_name}
 use Rattle.records.specs.Layout.{record_on}
 use Rattle.records.proofs.Layouts.{handle-end, name-start}
 use Rattle.record_contents.proofs.Texts.{handle-bytes, name-bytes, texts-bad, texts-by-name}
-use borrow.Author.Rules.{rules}
 use Rattle.record_contents.proofs.texts_ok.Goals as goal
 use Rattle.record_contents.proofs.texts_ok.Goals.{Start}
 

@@ -1,6 +1,5 @@
 -- By the test.
 use mathlib.Core.Path.{sym, ◌∙◌}
-use borrow.Author.Rules.{rules}
 use Rattle.record_defect.proofs.defect_of.Goals as goal
 
 pub returns-then-is_whole : goal.returns-then-is_whole

@@ -1,6 +1,5 @@
 -- What the comparison tells of the first text.
 use mathlib.Core.Path.{sym, ◌∙◌}
-use borrow.Author.Rules.{rules}
 use Rattle.octets.proofs.Order.{told-first}
 use Rattle.words.proofs.bytes_at_most.Goals as goal
 

@@ -1,11 +1,7 @@
-use mathlib.Core.Path.{◌≡◌, ◌∙◌}
-use Prim.Native.Nat.{◌≤◌, ◌-◌}
-use lib.ListN.{length, drop}
+use mathlib.Core.Path.{◌∙◌}
 use native.Mathlib.Omega.{arith}
 use Rattle.octets.specs.Number.{Bytes}
-use Rattle.octets.specs.Order.{compared}
 use Rattle.octets.proofs.Parts as words
-use borrow.Author.Rules.{rules}
 use Rattle.words.proofs.compare.Goals as goal
 use Rattle.words.proofs.compare.Goals.{After-shared_slice_known-2-1}
 

@@ -1,12 +1,8 @@
 -- The loop's invariant: what is left from i on decides. A word of eight bytes of each passes, or ends it.
-use mathlib.Core.Path.{◌≡◌, ◌∙◌}
+use mathlib.Core.Path.{◌≡◌}
 use Prim.Native.Nat.{◌≤◌, ◌-◌}
 use lib.ListN.{length, drop}
-use native.Mathlib.Omega.{arith}
-use Rattle.octets.specs.Number.{Bytes}
 use Rattle.octets.specs.Order.{compared}
-use Rattle.octets.proofs.Parts as words
-use borrow.Author.Rules.{rules}
 use Rattle.words.proofs.compare.Given as goal
 
 abbrev pub invariant-loop-i : goal.invariant-loop-i

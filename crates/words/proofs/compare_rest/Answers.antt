@@ -1,11 +1,7 @@
-use mathlib.Core.Path.{◌≡◌, ◌∙◌, sym}
-use Prim.Native.Nat.{◌≤◌, ◌-◌}
+use mathlib.Core.Path.{◌∙◌, sym}
 use native.Mathlib.Omega.{arith}
 use native.Mathlib.Numerals.{add-one}
-use lib.ListN.{length, drop}
-use Rattle.octets.specs.Order.{compared}
 use Rattle.octets.proofs.Comparing as step
-use borrow.Author.Rules.{rules}
 use Rattle.words.proofs.compare_rest.Goals as goal
 
 pub returns-then-b-i : goal.returns-then-b-i

@@ -1,12 +1,8 @@
 -- The loop's invariant: what is left from i on decides.
-use mathlib.Core.Path.{◌≡◌, ◌∙◌, sym}
+use mathlib.Core.Path.{◌≡◌}
 use Prim.Native.Nat.{◌≤◌, ◌-◌}
-use native.Mathlib.Omega.{arith}
-use native.Mathlib.Numerals.{add-one}
 use lib.ListN.{length, drop}
 use Rattle.octets.specs.Order.{compared}
-use Rattle.octets.proofs.Comparing as step
-use borrow.Author.Rules.{rules}
 use Rattle.words.proofs.compare_rest.Given as goal
 
 abbrev pub invariant-loop-i : goal.invariant-loop-i

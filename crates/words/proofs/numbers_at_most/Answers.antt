@@ -1,7 +1,6 @@
 -- One word each, or the order of two words each.
 use mathlib.Core.Path.{◌∙◌}
 use native.Mathlib.Omega.{arith}
-use borrow.Author.Rules.{rules}
 use Rattle.words.proofs.numbers_at_most.Goals as goal
 
 pub returns-then-width-eq4 : goal.returns-then-width-eq4

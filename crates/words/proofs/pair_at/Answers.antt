@@ -1,7 +1,6 @@
 -- Two words of eight bytes are two digits to the base 2 ^ 64.
 use mathlib.Core.Path.{sym}
 use Rattle.octets.proofs.Digits.{cut}
-use borrow.Author.Rules.{rules}
 use Rattle.words.proofs.pair_at.Goals as goal
 
 pub returns : goal.returns

@@ -4,7 +4,6 @@ use Prim.Native.Nat.{◌^◌}
 use native.Mathlib.Nat.{one-mul}
 use native.Mathlib.Omega.{arith}
 use lib.Pow.{shl_exact, pow_pos}
-use borrow.Author.Rules.{rules}
 use Rattle.words.proofs.power_of_two.Goals as goal
 
 pub returns : goal.returns

@@ -2,7 +2,6 @@
 use mathlib.Core.Path.{refl}
 use native.Mathlib.Omega.{arith}
 use Rattle.octets.specs.Words.{swap4_of}
-use borrow.Author.Rules.{rules}
 use Rattle.words.proofs.swap4.Goals as goal
 
 pub returns : goal.returns

@@ -3,7 +3,6 @@ use mathlib.Core.Path.{◌∙◌, ap}
 use native.Mathlib.Omega.{arith}
 use Rattle.octets.specs.Words.{swap4_of}
 use Rattle.octets.proofs.Pairs as words
-use borrow.Author.Rules.{rules}
 use Rattle.words.proofs.word4.Goals as goal
 
 pub returns : goal.returns

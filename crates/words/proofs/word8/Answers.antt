@@ -1,7 +1,6 @@
 -- Two words of four digits are one of eight.
 use mathlib.Core.Path.{sym}
 use Rattle.octets.proofs.Digits.{cut}
-use borrow.Author.Rules.{rules}
 use Rattle.words.proofs.word8.Goals as goal
 
 pub returns : goal.returns
