@@ -56,7 +56,7 @@ crates = {p.name for p in CRATES.iterdir()}
 sources = {crate: "\n".join(text(p) for p in (CRATES / crate / "src").rglob("*.rt")) for crate in crates}
 edits = {str(p.relative_to(CRATES)).replace("/must-fail/", "/")[:-5] for p in CRATES.glob("*/must-fail/*.edit")}
 logic = [text(p) for p in own("*.antt")]
-others = [text(p) for part in ("tests/model", "bench/fast", "bindings", "include") for end in ("rs", "py", "h") for p in (ROOT / part).rglob(f"*.{end}")]
+others = [text(p) for part in ("tests/model", "tests/compare", "bench/fast", "bindings", "include") for end in ("rs", "py", "h") for p in (ROOT / part).rglob(f"*.{end}")]
 known = {word for whole in (*logic, *sources.values(), *others) for word in re.findall(r"[A-Za-z_][\w'-]*", whole)}
 known |= crates | {edit.split("/")[1] for edit in edits}
 for name in ("../README.md", "PROMISES.md", "DECISIONS.md", "PROVING.md", "ARCHITECTURE.md"):
