@@ -77,6 +77,11 @@ for name in ("../README.md", "PROMISES.md", "DECISIONS.md", "PROVING.md", "ARCHI
         for edit in re.findall(r"`([^`/]+)/[^`]+`", named):
             check(edit in crates, f"{name}: no crate {edit}")
 
+# The campus paths and their answers stand twice: beside the vectors, and where rt ci runs the program.
+for one, other in (("campus.paths", "data/campus.paths"), ("campus.expected", "stdout"), ("campus.image", "data/campus.image")):
+    same = (ROOT / "tests/vectors" / one).read_bytes() == (CRATES / "rdap_paths" / other).read_bytes()
+    check(same, f"tests/vectors/{one} is not crates/rdap_paths/{other}")
+
 # All that knows a rule: the tables, and the functions of the tests in Rust.
 folders = {"model": "tests/model/src", "fast": "bench/fast/src", "generator": "tests/model/src/generate"}
 rust = {column: "\n".join(text(p) for p in (ROOT / folder).rglob("*.rs")) for column, folder in folders.items()}
