@@ -1,7 +1,7 @@
 /* Answers RDAP requests from a registry image. Every function is proved to write what its definition says, for any input.
  * The rules are in docs/SPECIFICATION.md and cited as S3.2; the format of an image is S4.
  *
- * Link with the archive that `rt staticlib rdap_c` writes to target/staticlib/librdap_c.a (x86-64, System V calls).
+ * Link with the archive crates/rdap_c/out/librdap_c.a, which `rt lib` makes in crates/rdap_c (x86-64, System V calls).
  * It needs memcpy and memset and nothing else.
  *
  * Memory. The caller owns every buffer, before, during and after a call. Nothing is allocated and no pointer is kept.

@@ -1,12 +1,11 @@
 #!/usr/bin/env bash
 # The Python and the Rust functions over the archive, tested. The last line is 'N passed, M failed'.
-# The archive is target/staticlib/librdap_c.a and is built if it is missing.
+# The archive is crates/rdap_c/out/librdap_c.a and is built if it is missing.
 set -u
 cd "$(dirname "$0")/.."
-archive=$PWD/target/staticlib/librdap_c.a
-[ -e "$archive" ] || "${RT:-rt}" staticlib rdap_c || exit 1
-mkdir -p target/c
 . tests/tally.sh
+archive || exit 1
+mkdir -p target/c
 
 gcc -shared -o target/c/librdap.so -Wl,--whole-archive "$archive" -Wl,--no-whole-archive -Wl,-z,text
 told "the shared library" $?

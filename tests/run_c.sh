@@ -1,14 +1,13 @@
 #!/usr/bin/env bash
 # Builds the examples in C and tests/calls.c against the archive, with warnings as errors, runs them and compares what they write;
 # holds the archive to tests/inlined.txt.
-# The archive is target/staticlib/librdap_c.a and is built if it is missing. The last line is 'N passed, M failed'.
+# The archive is crates/rdap_c/out/librdap_c.a and is built if it is missing. The last line is 'N passed, M failed'.
 set -u
 cd "$(dirname "$0")/.."
-archive=target/staticlib/librdap_c.a
-[ -e "$archive" ] || "${RT:-rt}" staticlib rdap_c || exit 1
+. tests/tally.sh
+archive || exit 1
 out=target/c
 mkdir -p "$out"
-. tests/tally.sh
 
 # writes PROGRAM PATH IMAGE EXPECTED STATUS [ERROR]: what an example writes, its exit status, and what it tells on standard error
 writes() {

@@ -1,11 +1,12 @@
 #!/bin/bash
 # Runs rdap_fold on the vectors of folds, on every kind of refusal, on files at its limits and on files that can't be read or written.
-# usage: tests/run_fold.sh PROGRAM, as target/bin/rdap_fold; rdap_paths stands beside it
+# usage: tests/run_fold.sh [PROGRAM], which is crates/rdap_fold/out/rdap_fold if none is named. It and rdap_paths are built if they are missing.
 # Prints each test that failed, and last how many passed and failed.
 set -u
 shopt -s extglob
 . "$(dirname "$0")/tally.sh"
-under_test "$@"
+asks=$(program_of rdap_paths)
+under_test rdap_fold "$@"
 umask 022
 
 # run ARGUMENTS..: the program; what it writes, what it tells, and the files in the folder afterwards
@@ -264,8 +265,8 @@ told 'standard output is full' $?
 bytes 31000615454e542d3230002b1000282000080a0300000a0300ff2100084e45542d31302d3322000b4f627365727661746f727923000101 changes
 "$program" "$vectors/campus.image" changes output >"$work/out"
 printf '/entity/ENT-2\n/entity/ENT-1\n/ip/10.3.0.7\n' >"$work/paths"
-before=$("$(dirname "$program")/rdap_paths" "$work/paths" "$vectors/campus.image")
-after=$("$(dirname "$program")/rdap_paths" "$work/paths" output)
+before=$("$asks" "$work/paths" "$vectors/campus.image")
+after=$("$asks" "$work/paths" output)
 [ "$(<"$work/out")" = 1759 ] && [ "$before" = $'200 0 5 1 34\n200 0 5 1 32\n200 0 1 1 1' ] && [ "$after" = $'404 8 5 0\n200 0 5 1 33\n200 0 1 1 7' ]
 told "asked before and after: '$before', '$after'" $?
 

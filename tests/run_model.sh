@@ -2,12 +2,12 @@
 # The independent model: the rows that its program prints; its tests; the vectors on the archive; then every public function of the archive
 # compared with the model.
 # usage: tests/run_model.sh [OPTIONS OF compare], as in tests/run_model.sh --calls 2000000 --seconds 3600 --seed 2
-# The archive is target/staticlib/librdap_c.a and is built if it is missing. VECTORS names the folder of vectors, tests/vectors if unset.
+# The archive is crates/rdap_c/out/librdap_c.a and is built if it is missing. VECTORS names the folder of vectors, tests/vectors if unset.
 # Without options all is over within two minutes. The last line is 'N passed, M failed'.
 set -u
 cd "$(dirname "$0")/.."
-archive=$PWD/target/staticlib/librdap_c.a
-[ -e "$archive" ] || "${RT:-rt}" staticlib rdap_c || exit 1
+. tests/tally.sh
+archive || exit 1
 export RDAP_LIB=$archive CARGO_TARGET_DIR=$PWD/target/model
 export VECTORS=${VECTORS:-$PWD/tests/vectors}
 limit="timeout 110"

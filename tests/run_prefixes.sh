@@ -1,10 +1,10 @@
 #!/bin/bash
 # Runs rdap_prefixes on the vectors in every format, beside filters.py, on lists of one name, on every kind of refusal and on files at its limits.
-# usage: tests/run_prefixes.sh PROGRAM, as target/bin/rdap_prefixes
+# usage: tests/run_prefixes.sh [PROGRAM], which is crates/rdap_prefixes/out/rdap_prefixes if none is named, and is built if it is missing
 # Prints each test that failed, and last how many passed and failed.
 set -u
 . "$(dirname "$0")/tally.sh"
-under_test "$@"
+under_test rdap_prefixes "$@"
 mkdir "$work/expected" || exit 1
 formats='plain cisco bird juniper json'
 

@@ -1,18 +1,18 @@
 #!/bin/bash
 # Runs the small program on the vectors and on files at its limits.
-# usage: tests/run_vectors.sh PROGRAM, as target/bin/rdap_paths
+# usage: tests/run_vectors.sh [PROGRAM], which is crates/rdap_paths/out/rdap_paths if none is named, and is built if it is missing
 # Prints a line for each test, and last how many passed and failed.
 
-if [ $# -ne 1 ] || [ ! -x "$1" ]; then
-    echo "usage: $0 PROGRAM" >&2
+. "$(dirname "$0")/tally.sh"
+program=${1-$(program_of rdap_paths)}
+if [ $# -gt 1 ] || [ ! -x "$program" ]; then
+    echo "usage: $0 [PROGRAM]" >&2
     exit 2
 fi
-program=$(realpath "$1")
+program=$(realpath "$program")
 vectors=$(realpath "$(dirname "$0")/vectors")
 work=$(mktemp -d)
 trap 'rm -rf "$work"' EXIT
-passed=0
-failed=0
 
 # tell NAME STATUS: counts a test whose last command ended with the status.
 tell() {
@@ -118,5 +118,4 @@ refuse "no argument" usage
 refuse "one argument" usage "$work/paths"
 refuse "three arguments" usage "$work/paths" "$campus" "$campus"
 
-echo "$passed passed, $failed failed"
-[ "$failed" -eq 0 ]
+tally
