@@ -121,6 +121,9 @@ pub fn fail(err: &impl Print, what: &[u8], why: &io::Error) {
 
 // Arguments.
 
+// The most bytes that a name may have as an argument.
+pub const MOST_NAME: usize = 4096;
+
 // Whether there is an argument of this number; 0 is the program's own name.
 pub fn has_argument(rt: &impl Env, i: usize) -> bool {
     let mut none = [0u8; 0];
