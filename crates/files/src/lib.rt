@@ -250,13 +250,25 @@ pub fn part(s: &[u8], start: usize, end: usize) -> &[u8]
     &s[from..until]
 }
 
-// Writes the bytes to standard output. Where that fails, says so.
-pub fn write_out(out: &impl Print, err: &impl Print, bytes: &[u8]) -> bool {
-    match Print::write_all(out, bytes) {
-        Ok(()) => true,
-        Err(e) => {
-            fail(err, b"standard output", &e);
-            false
-        }
+// Standard output.
+
+// Whether a write failed since nobody reads any more.
+pub fn is_unread(why: &io::Error) -> bool {
+    why.kind() == ErrorKind::BrokenPipe
+}
+
+// What kept the output from being written. Where nobody reads it any more, nobody is told.
+pub fn tell_unwritten(err: &impl Print, why: &io::Error) {
+    if !is_unread(why) {
+        fail(err, b"standard output", why);
     }
+}
+
+// Writes the bytes to standard output. Where that fails, says so.
+pub fn write_out(out: &impl Print, err: &impl Print, bytes: &[u8]) -> io::Result<()> {
+    let done = Print::write_all(out, bytes);
+    if let Err(e) = &done {
+        tell_unwritten(err, e);
+    }
+    done
 }

@@ -17,8 +17,8 @@ use changes::MOST_CHANGES;
 use entries::contents_span;
 use fields::{Field, step_at};
 use files::{
-    MOST_NAME, argument, fail, has_just, image_room, part, read_whole, small_room, tell,
-    tell_defect, tell_defective, tell_image, tell_name, tell_number,
+    MOST_NAME, argument, has_just, image_room, part, read_whole, small_room, tell, tell_defect,
+    tell_defective, tell_image, tell_name, tell_number, tell_unwritten,
 };
 use final_image::Folded;
 use final_list::final_record;
@@ -201,7 +201,7 @@ fn save<R: Files<File = File> + RandomSource>(
 // The number of bytes, on standard output.
 fn write_number(rt: &impl Print, err: &impl Print, n: usize) {
     if let Err(e) = println!(rt; "{n}") {
-        fail(err, b"standard output", &e);
+        tell_unwritten(err, &e);
     }
 }
 

@@ -11,7 +11,8 @@ ghost use Rattle.lines.specs.Lined.{longest_line, line_of};
 ghost use Rattle.output.specs.Writing.{Written};
 
 use files::{
-    MOST_NAME, argument, fail, has_just, part, path_of, read_whole, small_room, tell, write_out,
+    MOST_NAME, argument, fail, has_just, is_unread, part, path_of, read_whole, small_room, tell,
+    write_out,
 };
 use registry::{MOST_RECORDS, PerRecord};
 use std::io::{ErrorKind, Read};
@@ -20,14 +21,27 @@ use std::{fs, io};
 
 // The output: what was put stands at the start of a buffer of 32,768 bytes and room for a line.
 
+// Writes out what was put, and notes whether nobody reads it any more.
+fn flush(rt: &impl Print, err: &impl Print, out: &[u8; 77868], at: usize, unread: &mut bool) {
+    if let Err(e) = write_out(rt, err, part(out, 0, at)) {
+        *unread = is_unread(&e);
+    }
+}
+
 // Where the next line goes: after what was put, while that is short; else what was put is written out first.
-fn make_room(rt: &impl Print, err: &impl Print, out: &[u8; 77868], at: usize) -> usize
+fn make_room(
+    rt: &impl Print,
+    err: &impl Print,
+    out: &[u8; 77868],
+    at: usize,
+    unread: &mut bool,
+) -> usize
     ensures { result < 32768 }
 {
     if at < 32768 {
         return at;
     }
-    write_out(rt, err, part(out, 0, at));
+    flush(rt, err, out, at, unread);
     0
 }
 
@@ -39,11 +53,12 @@ fn put_answer(path: &[u8], image: &[u8], list: &mut PerRecord, out: &mut [u8], a
     at + lines::put_answer(path, image, list, &mut out[at..])
 }
 
-// How many bytes of a line are kept, and how many of the output are put.
+// How many bytes of a line are kept, how many of the output are put, and whether nobody reads that any more.
 #[derive(Clone, Copy)]
 struct Kept {
     line: usize,
     out: usize,
+    unread: bool,
 }
 
 // Keeps a byte of a line. More than 1,025 are too long in the same way.
@@ -65,10 +80,12 @@ fn end_line(
     list: &mut PerRecord,
     out: &mut [u8; 77868],
 ) -> Kept {
-    let at = make_room(rt, err, out, kept.out);
+    let mut unread = kept.unread;
+    let at = make_room(rt, err, out, kept.out, &mut unread);
     Kept {
         line: 0,
         out: put_answer(part(line, 0, kept.line), image, list, out, at),
+        unread,
     }
 }
 
@@ -88,6 +105,7 @@ fn take_byte(
     Kept {
         line: keep(line, kept.line, b),
         out: kept.out,
+        unread: kept.unread,
     }
 }
 
@@ -118,13 +136,12 @@ fn finish(
     list: &mut PerRecord,
     out: &mut [u8; 77868],
 ) {
-    let len = kept.line;
-    let mut at = kept.out;
-    if 0 < len {
-        let ended = end_line(rt, err, line, kept, image, list, out);
-        at = ended.out;
+    let mut last = kept;
+    if 0 < kept.line {
+        last = end_line(rt, err, line, kept, image, list, out);
     }
-    write_out(rt, err, part(out, 0, at));
+    let mut unread = last.unread;
+    flush(rt, err, out, last.out, &mut unread);
 }
 
 // One read, again where a signal cut it short.
@@ -158,11 +175,15 @@ fn answer_lines(
     let mut line = [0u8; 1025];
     let mut list = [0u32; MOST_RECORDS];
     let mut out = [0u8; 77868];
-    let mut kept = Kept { line: 0, out: 0 };
+    let mut kept = Kept {
+        line: 0,
+        out: 0,
+        unread: false,
+    };
     let mut got = Ok(first);
     for _ in 0..u64::MAX {
         match got {
-            Ok(n) if 0 < n => {
+            Ok(n) if 0 < n && !kept.unread => {
                 kept = take_bytes(
                     rt,
                     err,

@@ -36,7 +36,7 @@ enum Put {
 }
 
 fn flush(rt: &impl Print, err: &impl Print, out: &[u8; SPACE], at: usize) -> bool {
-    write_out(rt, err, part(out, 0, at))
+    write_out(rt, err, part(out, 0, at)).is_ok()
 }
 
 // Puts the list of the network that starts at a position after what was put. Gives where it ends.
