@@ -27,10 +27,8 @@ fn say(out: &impl Print, s: &[u8]) {
 }
 
 fn say_hex(out: &impl Print, s: &[u8]) {
-    let mut i = 0;
-    while i < s.len() {
-        let _ = print!(out; "{:02x}", s[i]);
-        i += 1;
+    for b in s {
+        let _ = print!(out; "{b:02x}");
     }
 }
 
