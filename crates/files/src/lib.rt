@@ -1,20 +1,24 @@
-// What the programs do alike: a file is read whole, output is written, and what is wrong is told on standard error.
+// What the programs do alike: arguments are taken, a file is read whole, output is written, and what is wrong is told on standard error.
+// A name is any bytes as the program was given it. To open a file its name must be UTF-8 text.
 #![tactic(auto)]
 
-ghost use Rattle.std.specs.Prelude.{◌≡◌, ◌+◌, ◌≤◌, ◌<◌, length};
+ghost use Rattle.std.specs.Prelude.{◌≡◌, ◌+◌, ◌≤◌, ◌<◌, IfSome, length};
 ghost use Rattle.registry.specs.Limits.{most_image};
 
-use libc::{STDERR_FILENO, STDOUT_FILENO};
 use registry::{MOST_COUNT, MOST_IMAGE};
+use std::env::FillError;
+use std::io::{Cursor, ErrorKind, Read, Write};
+use std::rt::{Env, Files};
+use std::{fs, io, str};
 
-// What is wrong: parts of a line on standard error.
+// What is wrong: parts of a line on standard error. Where that can't be written, nothing is left to be told.
 
-pub fn tell(text: &[u8]) {
-    io::write_all(STDERR_FILENO, text);
+pub fn tell(err: &impl Print, text: &[u8]) {
+    let _ = Print::write_all(err, text);
 }
 
-pub fn tell_number(n: u64) {
-    io::print_decimal(STDERR_FILENO, n);
+pub fn tell_number(err: &impl Print, n: u64) {
+    let _ = err.print(n);
 }
 
 fn wide(n: u32) -> u64 {
@@ -22,68 +26,141 @@ fn wide(n: u32) -> u64 {
 }
 
 // The handle or the name of a record, if it is not empty.
-pub fn tell_name(name: &[u8]) {
+pub fn tell_name(err: &impl Print, name: &[u8]) {
     if name.len() == 0 {
         return;
     }
-    tell(b" (");
-    tell(name);
-    tell(b")");
+    tell(err, b" (");
+    tell(err, name);
+    tell(err, b")");
 }
 
 // A record: its number and, if it is not empty, its handle.
-pub fn tell_record(number: u32, handle: &[u8]) {
-    tell_number(wide(number));
-    tell_name(handle);
+pub fn tell_record(err: &impl Print, number: u32, handle: &[u8]) {
+    tell_number(err, wide(number));
+    tell_name(err, handle);
 }
 
-fn tell_defect_number(defect: u32) {
-    tell(b"defect ");
-    tell_number(wide(defect));
+fn tell_defect_number(err: &impl Print, defect: u32) {
+    tell(err, b"defect ");
+    tell_number(err, wide(defect));
 }
 
-fn tell_defect_words(defect: u32, place: u32) {
+fn tell_defect_words(err: &impl Print, defect: u32, place: u32) {
     match defect {
-        1 => tell(b"it is longer than 262144 bytes"),
-        2 => tell(b"it does not start with the bytes 01 00 01 01"),
+        1 => tell(err, b"it is longer than 262144 bytes"),
+        2 => tell(err, b"it does not start with the bytes 01 00 01 01"),
         3 => {
             if place < MOST_COUNT {
-                tell(b"it is cut short or has an unknown tag");
+                tell(err, b"it is cut short or has an unknown tag");
             } else {
-                tell(b"it comes after 4096 others");
+                tell(err, b"it comes after 4096 others");
             }
         }
-        4 => tell(b"an inner field is missing, out of order or of a wrong length"),
-        5 => tell(b"what a field holds is not of its form, or first is above last"),
-        6 => tell(b"it does not sort after the record before it"),
-        _ => tell(b"it overlaps an earlier block without lying inside it"),
+        4 => tell(
+            err,
+            b"an inner field is missing, out of order or of a wrong length",
+        ),
+        5 => tell(
+            err,
+            b"what a field holds is not of its form, or first is above last",
+        ),
+        6 => tell(err, b"it does not sort after the record before it"),
+        _ => tell(err, b"it overlaps an earlier block without lying inside it"),
     }
 }
 
 // A defect, in number and words.
-pub fn tell_defect(defect: u32, place: u32) {
-    tell_defect_number(defect);
-    tell(b": ");
-    tell_defect_words(defect, place);
+pub fn tell_defect(err: &impl Print, defect: u32, place: u32) {
+    tell_defect_number(err, defect);
+    tell(err, b": ");
+    tell_defect_words(err, defect, place);
 }
 
 // The defect of an image, and the record that has it, as the end of a line. Defects 1 and 2 are of no record.
-pub fn tell_defective(defect: u32, place: u32, handle: &[u8]) {
-    tell_defect_number(defect);
+pub fn tell_defective(err: &impl Print, defect: u32, place: u32, handle: &[u8]) {
+    tell_defect_number(err, defect);
     if 2 < defect {
-        tell(b" in record ");
-        tell_record(place, handle);
+        tell(err, b" in record ");
+        tell_record(err, place, handle);
     }
-    tell(b": ");
-    tell_defect_words(defect, place);
-    tell(b"\n");
+    tell(err, b": ");
+    tell_defect_words(err, defect, place);
+    tell(err, b"\n");
 }
 
 // What is wrong with an image file.
-pub fn tell_image(name: &[u8], defect: u32, place: u32) {
-    tell(name);
-    tell(b": ");
-    tell_defective(defect, place, b"");
+pub fn tell_image(err: &impl Print, name: &[u8], defect: u32, place: u32) {
+    tell(err, name);
+    tell(err, b": ");
+    tell_defective(err, defect, place, b"");
+}
+
+// The words of an error that is displayed: the system's errors have their number after the words.
+fn words(shown: &str) -> &str {
+    match shown.split_once(" (os error ") {
+        Some((before, _)) => before,
+        None => shown,
+    }
+}
+
+// What failed and why, as a line.
+pub fn fail(err: &impl Print, what: &[u8], why: &io::Error) {
+    let mut room = Cursor::new([0u8; 128]);
+    let _ = write!(room, "{why}");
+    let end = room.position() as usize;
+    let shown = room.into_inner();
+    tell(err, what);
+    tell(err, b": ");
+    match str::from_utf8(part(&shown, 0, end)) {
+        Ok(text) => tell(err, words(text).as_bytes()),
+        Err(_) => tell(err, b"an error"),
+    }
+    tell(err, b"\n");
+}
+
+// Arguments.
+
+// The most bytes that a name may have as an argument.
+pub const MOST_NAME: usize = 4096;
+
+// Whether there is an argument of this number; 0 is the program's own name.
+pub fn has_argument(rt: &impl Env, i: usize) -> bool {
+    let mut none = [0u8; 0];
+    match rt.arg(i, &mut none) {
+        Ok(_) => true,
+        Err(FillError::TooLong) => true,
+        Err(FillError::NotPresent) => false,
+    }
+}
+
+// Whether the arguments after the program's own name are just so many.
+pub fn has_just(rt: &impl Env, count: u8) -> bool {
+    has_argument(rt, usize::from(count)) && !has_argument(rt, usize::from(count) + 1)
+}
+
+// The system's numbers for an argument that is missing, and for a name that is too long.
+const INVALID: i32 = 22;
+
+const NAME_TOO_LONG: i32 = 36;
+
+// Puts an argument at the start of a room and gives its length. Where it does not fit, says so of the word that the usage has for it.
+pub fn argument(
+    rt: &impl Env,
+    err: &impl Print,
+    i: usize,
+    called: &[u8],
+    room: &mut [u8],
+) -> Option<usize>
+    ensures { IfSome result (λ n. n ≤ length room.new) }
+{
+    let number = match rt.arg(i, room) {
+        Ok(n) => return Some(n),
+        Err(FillError::TooLong) => NAME_TOO_LONG,
+        Err(FillError::NotPresent) => INVALID,
+    };
+    fail(err, called, &io::Error::from_raw_os_error(number));
+    None
 }
 
 // Files that are read.
@@ -102,39 +179,60 @@ pub fn small_room() -> [u8; 65537]
     [0; 65537]
 }
 
-// Reads what an open file holds into a room with one byte more than it may hold.
-fn read_open(fd: i32, name: &[u8], room: &mut [u8]) -> usize
-    requires { 0 < length room.old }
-{
-    let n = io::read_full(fd, room);
-    if n == room.len() {
-        tell(name);
-        tell(b": longer than ");
-        tell_number((n - 1) as u64);
-        tell(b" bytes\n");
-        return n;
+// A name as the path of a file.
+pub fn path_of(name: &[u8]) -> io::Result<&str> {
+    match str::from_utf8(name) {
+        Ok(path) => Ok(path),
+        Err(_) => Err(io::Error::from(ErrorKind::InvalidFilename)),
     }
-    let mut more = [0u8; 1];
-    let left = libc::read(fd, &mut more);
-    if left != 0 {
-        os::fail(name);
-        return room.len();
-    }
-    n
 }
 
-// Reads a file whole into such a room. Where that fails, says so and gives the length of the room.
-pub fn read_whole(name: &[u8], room: &mut [u8]) -> usize
+// Reads until the room is full, the input ends or a read fails. Gives how many bytes stand in the room, and how the reading ended.
+pub fn read_full(from: &mut impl Read, room: &mut [u8]) -> (usize, io::Result<()>)
+    ensures { result.0 ≤ length room.new }
+{
+    let mut done = 0;
+    for _ in 0..u64::MAX {
+        if done >= room.len() {
+            break;
+        }
+        match from.read(&mut room[done..]) {
+            Ok(0) => break,
+            Ok(n) => done += n,
+            Err(e) => {
+                if e.kind() != ErrorKind::Interrupted {
+                    return (done, Err(e));
+                }
+            }
+        }
+    }
+    (done, Ok(()))
+}
+
+fn read_file(rt: &impl Files, name: &[u8], room: &mut [u8]) -> io::Result<usize> {
+    let mut file = fs::open(rt, path_of(name)?)?;
+    let (n, ended) = read_full(&mut file, room);
+    ended?;
+    Ok(n)
+}
+
+// Reads a file whole into a room with one byte more than it may hold. Where that fails, says so and gives the length of the room.
+pub fn read_whole(rt: &impl Files, err: &impl Print, name: &[u8], room: &mut [u8]) -> usize
     requires { 0 < length room.old }
 {
-    let fd = os::open_read(name);
-    if fd < 0 {
-        os::fail(name);
-        return room.len();
+    match read_file(rt, name, room) {
+        Ok(n) => {
+            if n < room.len() {
+                return n;
+            }
+            tell(err, name);
+            tell(err, b": longer than ");
+            tell_number(err, (room.len() - 1) as u64);
+            tell(err, b" bytes\n");
+        }
+        Err(e) => fail(err, name, &e),
     }
-    let n = read_open(fd, name, room);
-    libc::close(fd);
-    n
+    room.len()
 }
 
 fn least(a: usize, b: usize) -> usize
@@ -152,11 +250,25 @@ pub fn part(s: &[u8], start: usize, end: usize) -> &[u8]
     &s[from..until]
 }
 
-// Writes the bytes to standard output. Where that fails, says so.
-pub fn write_out(bytes: &[u8]) -> bool {
-    if io::write_all(STDOUT_FILENO, bytes) {
-        return true;
+// Standard output.
+
+// Whether a write failed since nobody reads any more.
+pub fn is_unread(why: &io::Error) -> bool {
+    why.kind() == ErrorKind::BrokenPipe
+}
+
+// What kept the output from being written. Where nobody reads it any more, nobody is told.
+pub fn tell_unwritten(err: &impl Print, why: &io::Error) {
+    if !is_unread(why) {
+        fail(err, b"standard output", why);
     }
-    os::fail(b"standard output");
-    false
+}
+
+// Writes the bytes to standard output. Where that fails, says so.
+pub fn write_out(out: &impl Print, err: &impl Print, bytes: &[u8]) -> io::Result<()> {
+    let done = Print::write_all(out, bytes);
+    if let Err(e) = &done {
+        tell_unwritten(err, e);
+    }
+    done
 }

@@ -7,17 +7,18 @@
 
 ghost use Rattle.std.specs.Prelude.{◌≤◌, ◌<◌};
 
-use files::image_room;
+use files::{fail, image_room, read_full};
 use image::Verdict;
-use libc::STDOUT_FILENO;
 use registry::Part;
+use std::fs;
+use std::rt::Files;
 
-fn write(text: &[u8]) {
-    io::write_all(STDOUT_FILENO, text);
+fn write(rt: &impl Print, text: &[u8]) {
+    let _ = rt.write_all(text);
 }
 
-fn number(n: u64) {
-    io::print_decimal(STDOUT_FILENO, n);
+fn number(rt: &impl Print, n: u64) {
+    let _ = rt.print(n);
 }
 
 fn small(n: u32) -> u64 {
@@ -31,49 +32,49 @@ fn wide(b: u8) -> usize
 }
 
 // A line with defect and place; the number of lines of parts to follow.
-fn verdict(v: Verdict) -> u32 {
+fn verdict(rt: &impl Print, v: Verdict) -> u32 {
     match v {
         Verdict::Sound(count) => {
-            write(b"0 0\n");
+            write(rt, b"0 0\n");
             count
         }
         Verdict::Defective(defect, place) => {
-            number(small(defect));
-            write(b" ");
-            number(small(place));
-            write(b"\n");
+            number(rt, small(defect));
+            write(rt, b" ");
+            number(rt, small(place));
+            write(rt, b"\n");
             0
         }
     }
 }
 
-fn part(image: &[u8], record: u32, which: Part) {
+fn part(rt: &impl Print, image: &[u8], record: u32, which: Part) {
     let span = entries::part_span(image, record, which);
-    number(span.start as u64);
-    write(b" ");
-    write(entries::part(image, record, which));
+    number(rt, span.start as u64);
+    write(rt, b" ");
+    write(rt, entries::part(image, record, which));
 }
 
-fn parts(image: &[u8], record: u32) {
-    part(image, record, Part::Handle);
-    write(b" ");
-    part(image, record, Part::Name);
-    write(b"\n");
+fn parts(rt: &impl Print, image: &[u8], record: u32) {
+    part(rt, image, record, Part::Handle);
+    write(rt, b" ");
+    part(rt, image, record, Part::Name);
+    write(rt, b"\n");
 }
 
-fn check_with_parts(image: &[u8]) {
-    let count = verdict(image::check(image));
+fn check_with_parts(rt: &impl Print, image: &[u8]) {
+    let count = verdict(rt, image::check(image));
     if count == 0 {
         return;
     }
     for record in 0..count {
-        parts(image, record);
+        parts(rt, image, record);
     }
-    parts(image, count);
+    parts(rt, image, count);
 }
 
 // Where the next image of the file starts.
-fn next(file: &[u8], at: usize) -> usize {
+fn next(rt: &impl Print, file: &[u8], at: usize) -> usize {
     if file.len() < at {
         return 0;
     }
@@ -86,31 +87,30 @@ fn next(file: &[u8], at: usize) -> usize {
         return 0;
     }
     let end = start + size;
-    check_with_parts(&file[start..end]);
+    check_with_parts(rt, &file[start..end]);
     end
 }
 
-fn all(file: &[u8]) {
+fn all(rt: &impl Print, file: &[u8]) {
     let mut at: usize = 0;
     for _ in 0..file.len() {
-        at = next(file, at);
+        at = next(rt, file, at);
         if at == 0 {
             return;
         }
     }
 }
 
-fn vectors() {
-    let path = b"defects";
-    let fd = os::open_read(path);
-    if fd < 0 {
-        os::fail(path);
-        return;
+// The images of the file, as far as it can be read.
+fn vectors(rt: &(impl Files + Print), err: &impl Print) {
+    match fs::open(rt, "defects") {
+        Ok(mut from) => {
+            let mut file = image_room();
+            let (n, _) = read_full(&mut from, &mut file);
+            all(rt, &file[..n]);
+        }
+        Err(e) => fail(err, b"defects", &e),
     }
-    let mut file = image_room();
-    let n = io::read_full(fd, &mut file);
-    libc::close(fd);
-    all(&file[..n]);
 }
 
 // Images at the limits, written into a buffer. Nothing is written past its end.
@@ -187,11 +187,11 @@ fn put_entity(out: &mut [u8; 262145], at: usize, n: u32, dots: u8) -> usize
 }
 
 // A line with the defect and place of the first n bytes.
-fn show(label: &[u8], out: &[u8], n: usize) {
-    write(label);
-    write(b": ");
+fn show(rt: &impl Print, label: &[u8], out: &[u8], n: usize) {
+    write(rt, label);
+    write(rt, b": ");
     if n <= out.len() {
-        verdict(image::check(&out[..n]));
+        verdict(rt, image::check(&out[..n]));
     }
 }
 
@@ -204,12 +204,12 @@ fn put_entities(out: &mut [u8; 262145], count: u32) -> usize {
 }
 
 // Records of 137 bytes and one of 59 make 262,144 bytes.
-fn longest(out: &mut [u8; 262145]) {
+fn longest(rt: &impl Print, out: &mut [u8; 262145]) {
     let at = put_entities(out, 1913);
     put_entity(out, at, 1913, 21);
-    show(b"262,144 bytes", out, 262144);
-    show(b"262,143 bytes", out, 262143);
-    show(b"262,145 bytes", out, 262145);
+    show(rt, b"262,144 bytes", out, 262144);
+    show(rt, b"262,143 bytes", out, 262143);
+    show(rt, b"262,145 bytes", out, 262145);
 }
 
 // Blocks nested in each other, or side by side and of one address each. A block is 32 bytes long.
@@ -225,59 +225,59 @@ fn last_of(n: u32) -> u32 {
     if n < 10000 { 10000 - n } else { n }
 }
 
-fn siblings(out: &mut [u8; 262145]) {
+fn siblings(rt: &impl Print, out: &mut [u8; 262145]) {
     put_blocks(out, 4097, false);
-    show(b"4,096 records", out, 131076);
-    show(b"4,097 records", out, 131108);
+    show(rt, b"4,096 records", out, 131076);
+    show(rt, b"4,097 records", out, 131108);
 }
 
 // A chain, and another block in place of its last one.
-fn chain(out: &mut [u8; 262145]) {
+fn chain(rt: &impl Print, out: &mut [u8; 262145]) {
     put_blocks(out, 4096, true);
-    show(b"chain of 4,096", out, 131076);
-    chained(out, b"sticking out of the chain", 4095, 10001);
-    chained(out, b"sticking out of the innermost", 5906, 5907);
-    chained(out, b"after the innermost", 5907, 5907);
-    chained(out, b"after the chain", 10001, 10001);
+    show(rt, b"chain of 4,096", out, 131076);
+    chained(rt, out, b"sticking out of the chain", 4095, 10001);
+    chained(rt, out, b"sticking out of the innermost", 5906, 5907);
+    chained(rt, out, b"after the innermost", 5907, 5907);
+    chained(rt, out, b"after the chain", 10001, 10001);
 }
 
-fn chained(out: &mut [u8; 262145], name: &[u8], first: u32, last: u32) {
+fn chained(rt: &impl Print, out: &mut [u8; 262145], name: &[u8], first: u32, last: u32) {
     put_block(out, 131044, 0, first, last);
-    show(name, out, 131076);
+    show(rt, name, out, 131076);
 }
 
 // One block of 36 bytes with the start.
-fn ends(out: &mut [u8; 262145]) {
+fn ends(rt: &impl Print, out: &mut [u8; 262145]) {
     let at = put_start(out);
     put_block(out, at, 0, 0, 0);
-    show(b"record to the end", out, 36);
-    show(b"record one byte past the end", out, 35);
+    show(rt, b"record to the end", out, 36);
+    show(rt, b"record one byte past the end", out, 35);
 }
 
 // The same block with another length of the record, which is at 6.
-fn record_lengths(out: &mut [u8; 262145]) {
+fn record_lengths(rt: &impl Print, out: &mut [u8; 262145]) {
     put(out, 6, 30);
-    show(b"length of the record one more", out, 36);
+    show(rt, b"length of the record one more", out, 36);
     put(out, 6, 28);
-    show(b"length of the record one less", out, 36);
+    show(rt, b"length of the record one less", out, 36);
     put(out, 6, 29);
 }
 
 // The same block with another length of its field 23, which is at 34.
-fn field_lengths(out: &mut [u8; 262145]) {
+fn field_lengths(rt: &impl Print, out: &mut [u8; 262145]) {
     put(out, 34, 2);
-    show(b"length of the last field one more", out, 36);
+    show(rt, b"length of the last field one more", out, 36);
     put(out, 34, 0);
-    show(b"length of the last field one less", out, 36);
+    show(rt, b"length of the last field one less", out, 36);
 }
 
-fn main() {
-    vectors();
+fn main(rt: HostRuntime) {
+    vectors(&rt, &rt.stderr());
     let mut out = image_room();
-    longest(&mut out);
-    siblings(&mut out);
-    chain(&mut out);
-    ends(&mut out);
-    record_lengths(&mut out);
-    field_lengths(&mut out);
+    longest(&rt, &mut out);
+    siblings(&rt, &mut out);
+    chain(&rt, &mut out);
+    ends(&rt, &mut out);
+    record_lengths(&rt, &mut out);
+    field_lengths(&rt, &mut out);
 }

@@ -6,23 +6,42 @@
 // PATHS is read in a stream and may be of any length. IMAGE has at most 65,536 bytes.
 #![tactic(auto)]
 
-ghost use Rattle.std.specs.Prelude.{◌+◌, ◌≤◌, ◌<◌, ◌++◌, length, take};
+ghost use Rattle.std.specs.Prelude.{◌+◌, ◌≤◌, ◌<◌, ◌++◌, IfOk, length, take};
 ghost use Rattle.lines.specs.Lined.{longest_line, line_of};
 ghost use Rattle.output.specs.Writing.{Written};
 
-use files::{part, read_whole, small_room, tell, write_out};
+use files::{
+    MOST_NAME, argument, fail, has_just, is_unread, part, path_of, read_whole, small_room, tell,
+    write_out,
+};
 use registry::{MOST_RECORDS, PerRecord};
+use std::io::{ErrorKind, Read};
+use std::rt::Files;
+use std::{fs, io};
 
 // The output: what was put stands at the start of a buffer of 32,768 bytes and room for a line.
 
+// Writes out what was put, and notes whether nobody reads it any more.
+fn flush(rt: &impl Print, err: &impl Print, out: &[u8; 77868], at: usize, unread: &mut bool) {
+    if let Err(e) = write_out(rt, err, part(out, 0, at)) {
+        *unread = is_unread(&e);
+    }
+}
+
 // Where the next line goes: after what was put, while that is short; else what was put is written out first.
-fn make_room(out: &[u8; 77868], at: usize) -> usize
+fn make_room(
+    rt: &impl Print,
+    err: &impl Print,
+    out: &[u8; 77868],
+    at: usize,
+    unread: &mut bool,
+) -> usize
     ensures { result < 32768 }
 {
     if at < 32768 {
         return at;
     }
-    write_out(part(out, 0, at));
+    flush(rt, err, out, at, unread);
     0
 }
 
@@ -34,11 +53,12 @@ fn put_answer(path: &[u8], image: &[u8], list: &mut PerRecord, out: &mut [u8], a
     at + lines::put_answer(path, image, list, &mut out[at..])
 }
 
-// How many bytes of a line are kept, and how many of the output are put.
-#[derive(Drop)]
+// How many bytes of a line are kept, how many of the output are put, and whether nobody reads that any more.
+#[derive(Clone, Copy)]
 struct Kept {
     line: usize,
     out: usize,
+    unread: bool,
 }
 
 // Keeps a byte of a line. More than 1,025 are too long in the same way.
@@ -52,20 +72,26 @@ fn keep(line: &mut [u8; 1025], len: usize, b: u8) -> usize {
 
 // Answers the line that is kept.
 fn end_line(
+    rt: &impl Print,
+    err: &impl Print,
     line: &[u8],
     kept: Kept,
     image: &[u8],
     list: &mut PerRecord,
     out: &mut [u8; 77868],
 ) -> Kept {
-    let at = make_room(out, kept.out);
+    let mut unread = kept.unread;
+    let at = make_room(rt, err, out, kept.out, &mut unread);
     Kept {
         line: 0,
         out: put_answer(part(line, 0, kept.line), image, list, out, at),
+        unread,
     }
 }
 
 fn take_byte(
+    rt: &impl Print,
+    err: &impl Print,
     b: u8,
     line: &mut [u8; 1025],
     kept: Kept,
@@ -74,15 +100,18 @@ fn take_byte(
     out: &mut [u8; 77868],
 ) -> Kept {
     if b == b'\n' {
-        return end_line(line, kept, image, list, out);
+        return end_line(rt, err, line, kept, image, list, out);
     }
     Kept {
         line: keep(line, kept.line, b),
         out: kept.out,
+        unread: kept.unread,
     }
 }
 
 fn take_bytes(
+    rt: &impl Print,
+    err: &impl Print,
     bytes: &[u8],
     line: &mut [u8; 1025],
     before: Kept,
@@ -92,102 +121,129 @@ fn take_bytes(
 ) -> Kept {
     let mut kept = before;
     for i in 0..bytes.len() {
-        kept = take_byte(bytes[i], line, kept, image, list, out);
+        kept = take_byte(rt, err, bytes[i], line, kept, image, list, out);
     }
     kept
 }
 
-// Takes the bytes that a read put into the chunk.
-fn take_read(
-    chunk: &[u8],
-    got: isize,
-    line: &mut [u8; 1025],
-    kept: Kept,
-    image: &[u8],
-    list: &mut PerRecord,
-    out: &mut [u8; 77868],
-) -> Kept {
-    let n = io::count(got, chunk);
-    take_bytes(&chunk[..n], line, kept, image, list, out)
-}
-
 // Answers a last line that has no line feed, and writes out what is left.
 fn finish(
+    rt: &impl Print,
+    err: &impl Print,
     line: &mut [u8; 1025],
     kept: Kept,
     image: &[u8],
     list: &mut PerRecord,
     out: &mut [u8; 77868],
 ) {
-    let len = kept.line;
-    let mut at = kept.out;
-    if 0 < len {
-        let ended = end_line(line, kept, image, list, out);
-        at = ended.out;
+    let mut last = kept;
+    if 0 < kept.line {
+        last = end_line(rt, err, line, kept, image, list, out);
     }
-    write_out(part(out, 0, at));
+    let mut unread = last.unread;
+    flush(rt, err, out, last.out, &mut unread);
 }
 
-// Answers the paths of a file whose first bytes are read. The turns are counted down from a number that no run uses up.
-fn answer_lines(fd: i32, name: &[u8], chunk: &mut [u8], first: isize, image: &[u8]) {
+// One read, again where a signal cut it short.
+fn read_some(from: &mut impl Read, chunk: &mut [u8]) -> io::Result<usize>
+    ensures { IfOk result (λ n. n ≤ length chunk.new) }
+{
+    for _ in 0..u64::MAX {
+        match from.read(chunk) {
+            Ok(n) => return Ok(n),
+            Err(e) => {
+                if e.kind() != ErrorKind::Interrupted {
+                    return Err(e);
+                }
+            }
+        }
+    }
+    Ok(0)
+}
+
+// Answers the paths of a file whose first bytes are read.
+fn answer_lines(
+    rt: &impl Print,
+    err: &impl Print,
+    from: &mut impl Read,
+    chunk: &mut [u8],
+    first: usize,
+    image: &[u8],
+) -> io::Result<()>
+    requires { first ≤ length chunk.old }
+{
     let mut line = [0u8; 1025];
     let mut list = [0u32; MOST_RECORDS];
     let mut out = [0u8; 77868];
-    let mut kept = Kept { line: 0, out: 0 };
-    let mut got = first;
-    let mut turns = u64::MAX;
-    while turns > 0 && got > 0 {
-        kept = take_read(chunk, got, &mut line, kept, image, &mut list, &mut out);
-        got = libc::read(fd, chunk);
-        turns -= 1;
+    let mut kept = Kept {
+        line: 0,
+        out: 0,
+        unread: false,
+    };
+    let mut got = Ok(first);
+    for _ in 0..u64::MAX {
+        match got {
+            Ok(n) if 0 < n && !kept.unread => {
+                kept = take_bytes(
+                    rt,
+                    err,
+                    &chunk[..n],
+                    &mut line,
+                    kept,
+                    image,
+                    &mut list,
+                    &mut out,
+                );
+                got = read_some(from, chunk);
+            }
+            _ => break,
+        }
     }
-    finish(&mut line, kept, image, &mut list, &mut out);
-    if got < 0 {
-        os::fail(name);
-    }
+    finish(rt, err, &mut line, kept, image, &mut list, &mut out);
+    got?;
+    Ok(())
 }
 
 // Reads the start of the paths, so that a file that can't be read is answered nothing.
-fn answer_paths(name: &[u8], image: &[u8]) {
-    let fd = os::open_read(name);
-    if fd < 0 {
-        os::fail(name);
-        return;
-    }
-    let mut chunk = io::buffer();
-    let got = libc::read(fd, &mut chunk);
-    if got < 0 {
-        os::fail(name);
-    } else {
-        answer_lines(fd, name, &mut chunk, got, image);
-    }
-    libc::close(fd);
+fn answer_file(
+    rt: &(impl Files + Print),
+    err: &impl Print,
+    name: &[u8],
+    image: &[u8],
+) -> io::Result<()> {
+    let mut from = fs::open(rt, path_of(name)?)?;
+    let mut chunk = [0u8; 4096];
+    let first = read_some(&mut from, &mut chunk)?;
+    answer_lines(rt, err, &mut from, &mut chunk, first, image)
 }
 
-fn run(paths_name: &[u8], image_name: &[u8]) {
+fn answer_paths(rt: &(impl Files + Print), err: &impl Print, name: &[u8], image: &[u8]) {
+    if let Err(e) = answer_file(rt, err, name, image) {
+        fail(err, name, &e);
+    }
+}
+
+fn run(rt: &(impl Files + Print), err: &impl Print, paths_name: &[u8], image_name: &[u8]) {
     let mut image = small_room();
-    let n = read_whole(image_name, &mut image);
+    let n = read_whole(rt, err, image_name, &mut image);
     if n <= 65536 {
-        answer_paths(paths_name, part(&image, 0, n));
+        answer_paths(rt, err, paths_name, part(&image, 0, n));
     }
 }
 
-fn main() {
-    if os::arg_count() != 3 {
-        tell(b"usage: rdap_paths PATHS IMAGE\n");
+fn main(rt: HostRuntime) {
+    let err = rt.stderr();
+    if !has_just(&rt, 2) {
+        tell(&err, b"usage: rdap_paths PATHS IMAGE\n");
         return;
     }
-    let mut paths = io::buffer();
-    let p = os::arg(1, &mut paths);
-    if os::errno() != 0 {
-        os::fail(b"PATHS");
+    let mut paths = [0u8; MOST_NAME];
+    let Some(p) = argument(&rt, &err, 1, b"PATHS", &mut paths) else {
         return;
-    }
-    let mut image = io::buffer();
-    let i = os::arg(2, &mut image);
-    if os::errno() != 0 {
-        os::fail(b"IMAGE");
+    };
+    let mut image = [0u8; MOST_NAME];
+    let Some(i) = argument(&rt, &err, 2, b"IMAGE", &mut image) else {
         return;
-    }
-    run(&paths[..p], &image[..i]);
+    };
+    run(&rt, &err, &paths[..p], &image[..i]);
 }

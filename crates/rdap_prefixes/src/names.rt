@@ -38,7 +38,7 @@ fn hash_of(name: &[u8]) -> usize
 }
 
 // The slot of the table for a name, or the number of the network that has it.
-#[derive(Drop)]
+#[derive(Clone, Copy)]
 enum Slot {
     Free(usize),
     Taken(u32),

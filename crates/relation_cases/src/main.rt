@@ -6,47 +6,55 @@
 
 ghost use Rattle.std.specs.Prelude.{◌<◌};
 
-use files::part;
-use libc::STDOUT_FILENO;
+use files::{fail, part, read_full};
 use registry::{MOST_RECORDS, PerRecord, Relation};
+use std::fs;
+use std::rt::Files;
 
-fn number(n: u32) {
-    io::print_decimal(STDOUT_FILENO, n as u64);
+fn number(rt: &impl Print, n: u32) {
+    let _ = rt.print(n);
 }
 
-fn next_number(n: u32) {
-    io::write_all(STDOUT_FILENO, b" ");
-    number(n);
+fn next_number(rt: &impl Print, n: u32) {
+    let _ = rt.write_all(b" ");
+    number(rt, n);
 }
 
 // The first record numbers of the list, so many.
-fn records(list: &[u32], count: usize) {
+fn records(rt: &impl Print, list: &[u32], count: usize) {
     for i in 0..list.len() {
         if count <= i {
             return;
         }
-        next_number(list[i]);
+        next_number(rt, list[i]);
     }
 }
 
-fn ask(image: &[u8], record: u32, relation: Relation, list: &mut [u32]) {
+fn ask(rt: &impl Print, image: &[u8], record: u32, relation: Relation, list: &mut [u32]) {
     let a = rdap::relation(image, record, relation, list);
     let kind = a.kind;
     let reason = a.reason;
     let count = a.count;
-    number(a.status);
-    next_number(reason);
-    next_number(kinds::kind_number(kind));
-    next_number(count);
+    number(rt, a.status);
+    next_number(rt, reason);
+    next_number(rt, kinds::kind_number(kind));
+    next_number(rt, count);
     let found = if reason == 0 { count } else { 0 };
-    records(list, found as usize);
-    io::write_all(STDOUT_FILENO, b"\n");
+    records(rt, list, found as usize);
+    let _ = rt.write_all(b"\n");
 }
 
 // Lends as many places as the case has, of 4,096.
-fn ask_with(image: &[u8], record: u32, relation: Relation, list: &mut [u32], room: usize) {
+fn ask_with(
+    rt: &impl Print,
+    image: &[u8],
+    record: u32,
+    relation: Relation,
+    list: &mut [u32],
+    room: usize,
+) {
     if room <= list.len() {
-        ask(image, record, relation, &mut list[..room]);
+        ask(rt, image, record, relation, &mut list[..room]);
     }
 }
 
@@ -65,7 +73,7 @@ fn wide(b: u8) -> u32
     b as u32
 }
 
-fn run_case(image: &[u8], case: &[u8], list: &mut [u32]) {
+fn run_case(rt: &impl Print, image: &[u8], case: &[u8], list: &mut [u32]) {
     if case.len() < 7 {
         return;
     }
@@ -73,38 +81,46 @@ fn run_case(image: &[u8], case: &[u8], list: &mut [u32]) {
     let low = wide(case[2]) * 256 + wide(case[3]);
     let record = high * 65536 + low;
     let room = wide(case[5]) * 256 + wide(case[6]);
-    ask_with(image, record, relation_of(case[4]), list, room as usize);
+    ask_with(rt, image, record, relation_of(case[4]), list, room as usize);
 }
 
-fn run_cases(image: &[u8], cases: &[u8], list: &mut [u32]) {
+fn run_cases(rt: &impl Print, image: &[u8], cases: &[u8], list: &mut [u32]) {
     let mut rest = cases;
     while 7 <= rest.len() {
-        run_case(image, rest, list);
+        run_case(rt, image, rest, list);
         rest = &rest[7..];
     }
 }
 
 // Reads the start of a file of the folder.
-fn read_file(name: &[u8], room: &mut [u8; 4096]) -> usize {
-    let fd = os::open_read(name);
-    if fd < 0 {
-        os::fail(name);
-        return 0;
+fn read_file(rt: &impl Files, err: &impl Print, name: &str, room: &mut [u8; 4096]) -> usize {
+    match fs::open(rt, name) {
+        Ok(mut from) => {
+            let (n, _) = read_full(&mut from, room);
+            n
+        }
+        Err(e) => {
+            fail(err, name.as_bytes(), &e);
+            0
+        }
     }
-    let n = io::read_full(fd, room);
-    libc::close(fd);
-    n
 }
 
-fn run_files(image: &mut [u8; 4096], cases: &mut [u8; 4096], list: &mut PerRecord) {
-    let m = read_file(b"campus.image", image);
-    let n = read_file(b"relations", cases);
-    run_cases(part(image, 0, m), part(cases, 0, n), list);
+fn run_files(
+    rt: &(impl Files + Print),
+    err: &impl Print,
+    image: &mut [u8; 4096],
+    cases: &mut [u8; 4096],
+    list: &mut PerRecord,
+) {
+    let m = read_file(rt, err, "campus.image", image);
+    let n = read_file(rt, err, "relations", cases);
+    run_cases(rt, part(image, 0, m), part(cases, 0, n), list);
 }
 
-fn main() {
+fn main(rt: HostRuntime) {
     let mut image = [0u8; 4096];
     let mut cases = [0u8; 4096];
     let mut list = [0u32; MOST_RECORDS];
-    run_files(&mut image, &mut cases, &mut list);
+    run_files(&rt, &rt.stderr(), &mut image, &mut cases, &mut list);
 }

@@ -14,24 +14,21 @@
 ghost use Rattle.std.specs.Prelude.{◌≤◌, length};
 ghost use Rattle.registry.specs.Limits.{most_path, most_host};
 
-use files::part;
+use files::{part, read_full};
 use ip::Family;
-use libc::{STDIN_FILENO, STDOUT_FILENO};
 use numeral::Number;
 use pattern::Form;
 use registry::{MOST_PATH, Text};
 use segment::TargetRead;
 use text_segment::NameRead;
 
-fn say(s: &[u8]) {
-    io::write_all(STDOUT_FILENO, s);
+fn say(out: &impl Print, s: &[u8]) {
+    let _ = out.write_all(s);
 }
 
-fn say_hex(s: &[u8]) {
-    let mut i = 0;
-    while i < s.len() {
-        io::print_hex(STDOUT_FILENO, s[i] as u64, 2);
-        i += 1;
+fn say_hex(out: &impl Print, s: &[u8]) {
+    for b in s {
+        let _ = print!(out; "{b:02x}");
     }
 }
 
@@ -42,68 +39,71 @@ fn zeros_before(family: u8) -> usize
     if family == 0x11 { 0 } else { 12 }
 }
 
-fn say_target(t: TargetRead) {
+fn say_target(out: &impl Print, t: TargetRead) {
     if !t.ok {
-        say(b"no");
+        say(out, b"no");
         return;
     }
     let range = t.range;
     let first = range.first.bytes;
     let last = range.last.bytes;
     let at = zeros_before(t.family);
-    say(b"ok ");
-    io::print_hex(STDOUT_FILENO, t.family as u64, 2);
-    say(b" ");
-    say_hex(part(&first, at, 16));
-    say(b" ");
-    say_hex(part(&last, at, 16));
+    say(out, b"ok ");
+    let _ = print!(out; "{:02x}", t.family);
+    say(out, b" ");
+    say_hex(out, part(&first, at, 16));
+    say(out, b" ");
+    say_hex(out, part(&last, at, 16));
 }
 
 // A/L, cut at the first slash.
-fn say_prefix(s: &[u8])
+fn say_prefix(out: &impl Print, s: &[u8])
     requires { length s.now ≤ most_path }
 {
     let j = pieces::first_piece(s, b'/');
     if j == s.len() {
-        say(b"no length");
+        say(out, b"no length");
         return;
     }
-    say_target(segment::read_prefix_segments(part(s, 0, j), part(s, j + 1, s.len())));
+    say_target(
+        out,
+        segment::read_prefix_segments(part(s, 0, j), part(s, j + 1, s.len())),
+    );
 }
 
-fn say_name(n: NameRead)
+fn say_name(out: &impl Print, n: NameRead)
     requires { n.len ≤ most_host }
 {
     if !n.ok {
-        say(b"no");
+        say(out, b"no");
         return;
     }
     let bytes = n.bytes;
     let len = n.len;
-    say(b"ok ");
-    say(part(&bytes, 0, len));
+    say(out, b"ok ");
+    say(out, part(&bytes, 0, len));
 }
 
-fn say_form(form: Form) {
+fn say_form(out: &impl Print, form: Form) {
     match form {
-        Form::Exact => say(b"exact"),
+        Form::Exact => say(out, b"exact"),
         Form::Asterisk(at) => {
-            say(b"asterisk ");
-            io::print_decimal(STDOUT_FILENO, at as u64);
+            say(out, b"asterisk ");
+            let _ = out.print(at);
         }
-        Form::Unsupported => say(b"unsupported"),
-        Form::Malformed => say(b"malformed"),
+        Form::Unsupported => say(out, b"unsupported"),
+        Form::Malformed => say(out, b"malformed"),
     }
 }
 
 // A pattern, which a space and a name may follow.
-fn say_pattern(text: Text, s: &[u8])
+fn say_pattern(out: &impl Print, text: Text, s: &[u8])
     requires { length s.now ≤ most_path }
 {
     let j = pieces::first_piece(s, b' ');
     let read = text_segment::read_pattern(text, part(s, 0, j));
     let form = read.form;
-    say_form(form);
+    say_form(out, form);
     if j == s.len() {
         return;
     }
@@ -115,108 +115,108 @@ fn say_pattern(text: Text, s: &[u8])
         part(&bytes, 0, len),
         part(s, j + 1, s.len()),
     ) {
-        say(b" matches");
+        say(out, b" matches");
     } else {
-        say(b" differs");
+        say(out, b" differs");
     }
 }
 
 // The text of an address of four bytes or sixteen.
-fn say_text(address: &[u8]) {
+fn say_text(out: &impl Print, address: &[u8]) {
     let mut text = [0u8; 39];
     let w = address_text::address_text(address, &mut text);
     let n = w.count as usize;
     if n <= 39 {
-        say(part(&text, 0, n));
+        say(out, part(&text, 0, n));
     }
 }
 
 // The address that is read, written again.
-fn say_written(s: &[u8]) {
+fn say_written(out: &impl Print, s: &[u8]) {
     let read = ip::read_address(s);
     let bytes = read.address.bytes;
     let family = read.family;
     match family {
-        Family::V4 => say_text(part(&bytes, 12, 16)),
-        Family::V6 => say_text(&bytes),
-        Family::Malformed => say(b"no"),
+        Family::V4 => say_text(out, part(&bytes, 12, 16)),
+        Family::V6 => say_text(out, &bytes),
+        Family::Malformed => say(out, b"no"),
     }
 }
 
-fn say_number(n: Number) {
+fn say_number(out: &impl Print, n: Number) {
     match n {
         Number::Value(v) => {
-            say(b"ok ");
-            io::print_decimal(STDOUT_FILENO, v);
+            say(out, b"ok ");
+            let _ = out.print(v);
         }
-        Number::Malformed => say(b"no"),
+        Number::Malformed => say(out, b"no"),
     }
 }
 
-fn say_bytes(s: &[u8]) {
+fn say_bytes(out: &impl Print, s: &[u8]) {
     if uri::is_sound(s) {
-        say(b"allowed");
+        say(out, b"allowed");
     } else {
-        say(b"not allowed");
+        say(out, b"not allowed");
     }
     if uri::has_high_escape(s) {
-        say(b", an escape from %80 up");
+        say(out, b", an escape from %80 up");
     }
 }
 
-fn say_decoded(s: &[u8])
+fn say_decoded(out: &impl Print, s: &[u8])
     requires { length s.now ≤ most_path }
 {
     let mut buffer = [0u8; MOST_PATH];
     let n = uri::decode(s, &mut buffer);
-    say_hex(part(&buffer, 0, n));
+    say_hex(out, part(&buffer, 0, n));
 }
 
-fn say_found(letter: u8, s: &[u8])
+fn say_found(out: &impl Print, letter: u8, s: &[u8])
     requires { length s.now ≤ most_path }
 {
     match letter {
-        b'a' => say_target(segment::read_address_segment(s)),
-        b'p' => say_prefix(s),
-        b'n' => say_target(autnum_segment::read_autnum_segment(s)),
-        b'm' => say_target(autnum_segment::read_autnums_segment(s)),
-        b'h' => say_name(text_segment::read_named(Text::Handle, s)),
-        b't' => say_name(text_segment::read_named(Text::Name, s)),
-        b'd' => say_name(text_segment::read_named(Text::Host, s)),
-        b'H' => say_pattern(Text::Handle, s),
-        b'T' => say_pattern(Text::Name, s),
-        b'D' => say_pattern(Text::Host, s),
-        b'w' => say_written(s),
-        b'o' => say_number(numeral::read_decimal(s, 255)),
-        b'g' => say_number(numeral::read_h16(s)),
-        b's' => say_bytes(s),
-        b'x' => say_decoded(s),
-        _ => say(b"no such letter"),
+        b'a' => say_target(out, segment::read_address_segment(s)),
+        b'p' => say_prefix(out, s),
+        b'n' => say_target(out, autnum_segment::read_autnum_segment(s)),
+        b'm' => say_target(out, autnum_segment::read_autnums_segment(s)),
+        b'h' => say_name(out, text_segment::read_named(Text::Handle, s)),
+        b't' => say_name(out, text_segment::read_named(Text::Name, s)),
+        b'd' => say_name(out, text_segment::read_named(Text::Host, s)),
+        b'H' => say_pattern(out, Text::Handle, s),
+        b'T' => say_pattern(out, Text::Name, s),
+        b'D' => say_pattern(out, Text::Host, s),
+        b'w' => say_written(out, s),
+        b'o' => say_number(out, numeral::read_decimal(s, 255)),
+        b'g' => say_number(out, numeral::read_h16(s)),
+        b's' => say_bytes(out, s),
+        b'x' => say_decoded(out, s),
+        _ => say(out, b"no such letter"),
     }
 }
 
-fn run_line(line: &[u8]) {
-    say(line);
+fn run_line(out: &impl Print, line: &[u8]) {
+    say(out, line);
     if line.len() < 2 {
-        say(b"\n");
+        say(out, b"\n");
         return;
     }
     if MOST_PATH < line.len() {
-        say(b" -> too long\n");
+        say(out, b" -> too long\n");
         return;
     }
     if line[0] != b'#' {
-        say(b" -> ");
-        say_found(line[0], &line[2..]);
+        say(out, b" -> ");
+        say_found(out, line[0], &line[2..]);
     }
-    say(b"\n");
+    say(out, b"\n");
 }
 
-fn run_lines(s: &[u8]) {
+fn run_lines(out: &impl Print, s: &[u8]) {
     let mut rest = s;
     while 0 < rest.len() {
         let j = pieces::first_piece(rest, b'\n');
-        run_line(&rest[..j]);
+        run_line(out, &rest[..j]);
         if j == rest.len() {
             return;
         }
@@ -224,8 +224,8 @@ fn run_lines(s: &[u8]) {
     }
 }
 
-fn main() {
-    let mut buffer = io::large_buffer();
-    let n = io::read_full(STDIN_FILENO, &mut buffer);
-    run_lines(&buffer[..n]);
+fn main(rt: HostRuntime) {
+    let mut buffer = [0u8; 65536];
+    let (n, _) = read_full(&mut rt.stdin(), &mut buffer);
+    run_lines(&rt, &buffer[..n]);
 }
