@@ -1,11 +1,11 @@
 use mathlib.Core.Path.{◌≡◌, ◌∙◌, refl, ap}
 use mathlib.Core.List.{List}
-use Prim.Native.Nat.{ℕ, ◌≤◌, ◌-◌}
+use Prim.Native.Nat.{ℕ, ◌-◌}
 use native.Mathlib.Omega.{arith}
 use native.Mathlib.Numerals.{add-one}
 use lib.ListN.{length, drop, replicate, length-drop}
 use Rattle.address.proofs.Padding.{padded}
-use lib.Seq.{paste, paste-zero, paste-suc, get_or-drop}
+use lib.Seq.{paste-zero, paste-suc, get_or-drop}
 use borrow.Author.Rules.{rules}
 use Rattle.address.proofs.address_at.Goals as goal
 

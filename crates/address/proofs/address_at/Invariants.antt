@@ -1,13 +1,8 @@
 -- The loop's invariant: the bytes copied so far stand after the zeros.
-use mathlib.Core.Path.{◌≡◌, ◌∙◌, refl, ap}
-use mathlib.Core.List.{List}
-use Prim.Native.Nat.{ℕ, ◌≤◌, ◌-◌}
-use native.Mathlib.Omega.{arith}
-use native.Mathlib.Numerals.{add-one}
-use lib.ListN.{length, drop, replicate, length-drop}
-use Rattle.address.proofs.Padding.{padded}
-use lib.Seq.{paste, paste-zero, paste-suc, get_or-drop}
-use borrow.Author.Rules.{rules}
+use mathlib.Core.Path.{◌≡◌}
+use Prim.Native.Nat.{◌≤◌, ◌-◌}
+use lib.ListN.{drop, replicate}
+use lib.Seq.{paste}
 use Rattle.address.proofs.address_at.Given as goal
 
 abbrev pub invariant-loop-i : goal.invariant-loop-i

@@ -1,6 +1,5 @@
 -- The order of the words is that of the numbers.
 use mathlib.Core.Path.{◌∙◌}
-use borrow.Author.Rules.{rules}
 use Rattle.address.proofs.at_least_at.Goals as goal
 
 pub returns : goal.returns

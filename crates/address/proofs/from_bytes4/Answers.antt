@@ -4,7 +4,6 @@ use native.Mathlib.Omega.{arith}
 use lib.Seq.{take_all}
 use Rattle.octets.specs.Number.{value}
 use Rattle.address.specs.Address.{number, number_at}
-use borrow.Author.Rules.{rules}
 use Rattle.address.proofs.from_bytes4.Goals as goal
 
 pub returns : goal.returns

@@ -4,27 +4,21 @@ use mathlib.Core.List.{[]}
 use native.Mathlib.Omega.{arith}
 use lib.ListN.{length, length-append}
 use Rattle.numeral.specs.Digits.{decimal_text}
-use Rattle.ip_text.specs.Text.{text_of}
 use Rattle.formats.specs.Styles.{template_at}
 use Rattle.output.proofs.Writing.{rest-length, written_both}
-use borrow.Author.Rules.{rules}
-use Rattle.ip_text.proofs.put_text.Reads as put-text-reads
 use Rattle.filters.proofs.put_prefix.Goals as goal
-use Rattle.filters.proofs.put_prefix.Goals.{After-put_text-at, Start}
+use Rattle.filters.proofs.put_prefix.Goals.{After-put_text-at}
 
-fits : (c : Start) → let a = c.args in
-    length (text_of a.address.now) + (length (template_at a.style []).slash + length (decimal_text a.bits)) ≤ length a.out.now
-fits c =
-    let h = simp length-append at c.requires.2 in
-    omega arith
-
--- after the address
 room : (c : After-put_text-at) → let a = c.args in
     c.put_text-at.result + (length (template_at a.style []).slash + length (decimal_text a.bits)) ≤ length a.out.now
-room c = omega (arith, fits c, c.put_text-at.ensures.size)
+room c =
+    let h = simp length-append at c.requires.2 in
+    omega (arith, c.put_text-at.ensures.size)
 
 pub put_text-at-requires : goal.put_text-at-requires
-put_text-at-requires c = (c.requires.1, omega (arith, fits (goal.at.put_text-at-requires c).Start))
+put_text-at-requires c =
+    let h = simp length-append at c.requires.2 in
+    (c.requires.1, omega arith)
 
 pub slice_bounds-put_fixed-count : goal.slice_bounds-put_fixed-count
 slice_bounds-put_fixed-count c = omega (arith, room (goal.at.slice_bounds-put_fixed-count c).After-put_text-at)

@@ -1,39 +1,39 @@
 -- One after another.
-use Prim.Native.Nat.{◌+◌, ◌≤◌}
-use mathlib.Core.List.{[]}
+use Prim.Native.Nat.{ℕ, ◌+◌, ◌≤◌}
+use mathlib.Core.List.{List, []}
 use native.Mathlib.Omega.{arith}
 use lib.ListN.{length, length-append}
 use Rattle.formats.specs.Template.{end_of}
 use Rattle.formats.specs.Styles.{template_at}
-use Rattle.filters.specs.Rows.{slashed}
+use Rattle.filters.specs.Rows.{slashed, row_text}
 use Rattle.output.proofs.Writing.{rest-length, written_both}
-use borrow.Author.Rules.{rules}
 use Rattle.filters.proofs.put_row.Goals as goal
-use Rattle.filters.proofs.put_row.Goals.{After-put_prefix-at, Start}
+use Rattle.filters.proofs.put_row.Goals.{After-put_prefix-at}
 
-fits : (c : Start) → let a = c.args in
-    length a.before.now + (length (slashed (template_at a.style []).slash a.address.now a.bits) + length (end_of (template_at a.style []) a.left)) ≤ length a.out.now
-fits c =
-    let h = simp length-append at c.requires.2 in
+fits :
+    (s : ℕ) (before address : List ℕ) (bits left : ℕ) {n : ℕ} → length (row_text s before address bits left) ≤ n →
+    length before + (length (slashed (template_at s []).slash address bits) + length (end_of (template_at s []) left)) ≤ n
+fits s before address bits left h =
+    let h = simp length-append at h in
     simp length-append (omega arith)
 
 pub put_bytes-at-requires : goal.put_bytes-at-requires
-put_bytes-at-requires c = omega (arith, fits (goal.at.put_bytes-at-requires c).Start)
+put_bytes-at-requires c = omega (arith, fits _ _ _ _ _ c.requires.2)
 
 pub slice_bounds-put_prefix-count : goal.slice_bounds-put_prefix-count
-slice_bounds-put_prefix-count c = omega (arith, fits (goal.at.slice_bounds-put_prefix-count c).Start)
+slice_bounds-put_prefix-count c = omega (arith, fits _ _ _ _ _ c.requires.2)
 
 pub slice_bounds-put_prefix-start : goal.slice_bounds-put_prefix-start
-slice_bounds-put_prefix-start c = omega (arith, fits (goal.at.slice_bounds-put_prefix-start c).Start)
+slice_bounds-put_prefix-start c = omega (arith, fits _ _ _ _ _ c.requires.2)
 
 pub put_prefix-at-requires : goal.put_prefix-at-requires
 put_prefix-at-requires c =
-    (c.requires.0, c.requires.1, rw rest-length (omega (arith, fits (goal.at.put_prefix-at-requires c).Start)))
+    (c.requires.0, c.requires.1, rw rest-length (omega (arith, fits _ _ _ _ _ c.requires.2)))
 
 -- after the prefix
 room : (c : After-put_prefix-at) → let a = c.args in
     c.put_bytes-at.result + c.put_prefix-at.result + length (end_of (template_at a.style []) a.left) ≤ length a.out.now
-room c = omega (arith, fits c, c.put_bytes-at.ensures.size, c.put_prefix-at.ensures.size)
+room c = omega (arith, fits _ _ _ _ _ c.requires.2, c.put_bytes-at.ensures.size, c.put_prefix-at.ensures.size)
 
 pub overflow_add-at : goal.overflow_add-at
 overflow_add-at c = omega (arith, room (goal.at.overflow_add-at c).After-put_prefix-at)

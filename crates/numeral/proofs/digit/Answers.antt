@@ -1,7 +1,6 @@
 -- `digit` is `digit_value`: the three ranges are tested in its order.
 use Prim.Native.Char.{code}
 use native.Mathlib.Omega.{arith}
-use borrow.Author.Rules.{rules}
 use Rattle.octets.proofs.Connectives.{within_low}
 use Rattle.numeral.specs.Numeral.{digit_value}
 use Rattle.numeral.proofs.digit.Goals as goal

@@ -1,7 +1,6 @@
 -- `has_leading_zero` is `leading_zero`: by the length and the first byte.
 use mathlib.Core.Path.{sym}
 use native.Mathlib.Omega.{arith}
-use borrow.Author.Rules.{rules}
 use Rattle.numeral.proofs.Laws.{zero-short, zero-first}
 use Rattle.numeral.proofs.has_leading_zero.Goals as goal
 

@@ -1,5 +1,4 @@
 -- `read_decimal` is `decimal`: a leading zero is refused, the rest is the numeral's reader.
-use borrow.Author.Rules.{rules}
 use Rattle.numeral.specs.Numeral.{decimal}
 use Rattle.numeral.proofs.read_decimal.Goals as goal
 

@@ -1,6 +1,5 @@
 -- `read_h16` is `h16`: more than four digits are refused, the rest is the numeral's reader.
 use borrow.Author.Tests.{le-leb, lt-leb}
-use borrow.Author.Rules.{rules}
 use Rattle.numeral.specs.Numeral.{h16}
 use Rattle.numeral.proofs.read_h16.Goals as goal
 

@@ -1,9 +1,8 @@
-use Prim.Native.Nat.{◌*◌, ◌+◌, ◌≤◌, ◌-◌}
-use mathlib.Core.Path.{◌≡◌, sym, ◌∙◌}
+use Prim.Native.Nat.{◌*◌, ◌+◌}
+use mathlib.Core.Path.{sym, ◌∙◌}
 use native.Mathlib.Omega.{arith}
-use lib.ListN.{get_or, length, drop}
-use borrow.Author.Rules.{rules}
-use Rattle.numeral.specs.Numeral.{digit_value, numeral, numeral_from}
+use lib.ListN.{get_or, drop}
+use Rattle.numeral.specs.Numeral.{digit_value}
 use Rattle.numeral.proofs.Laws.{value-fits, above-max, next_digit, no_digit, numeral-empty, numeral-start, numeral-end}
 use Rattle.numeral.proofs.read_numeral.Goals as goal
 

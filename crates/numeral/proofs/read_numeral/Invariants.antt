@@ -1,11 +1,8 @@
 -- `read_numeral` is `numeral`: the number before i, continued by the rest of s from i on, is what s stands for. It never passes max, so no sum wraps.
-use Prim.Native.Nat.{◌*◌, ◌+◌, ◌≤◌, ◌-◌}
-use mathlib.Core.Path.{◌≡◌, sym, ◌∙◌}
-use native.Mathlib.Omega.{arith}
-use lib.ListN.{get_or, length, drop}
-use borrow.Author.Rules.{rules}
-use Rattle.numeral.specs.Numeral.{digit_value, numeral, numeral_from}
-use Rattle.numeral.proofs.Laws.{value-fits, above-max, next_digit, no_digit, numeral-empty, numeral-start, numeral-end}
+use Prim.Native.Nat.{◌≤◌, ◌-◌}
+use mathlib.Core.Path.{◌≡◌}
+use lib.ListN.{length, drop}
+use Rattle.numeral.specs.Numeral.{numeral, numeral_from}
 use Rattle.numeral.proofs.read_numeral.Given as goal
 
 abbrev pub invariant-loop-i : goal.invariant-loop-i

@@ -1,13 +1,12 @@
 use mathlib.Core.Path.{◌≡◌, refl, sym, ◌∙◌}
 use mathlib.Core.List.{List}
-use Prim.Native.Nat.{ℕ, ◌+◌, ◌-◌, ◌*◌, ◌^◌, ◌%◌, ◌≤◌, ◌<◌}
+use Prim.Native.Nat.{ℕ, ◌+◌, ◌-◌, ◌^◌, ◌%◌}
 use native.Mathlib.Omega.{arith}
 use lib.ListN.{length, get_or, length-set}
 use lib.Seq.{get_or-set_other}
-use Rattle.octets.specs.Number.{value, Bytes}
+use Rattle.octets.specs.Number.{Bytes}
 use Rattle.octets.proofs.Bytes.{array_bytes}
 use Rattle.prefix.proofs.LowBits as low
-use borrow.Author.Rules.{rules}
 use Rattle.prefix.proofs.prefix_range.Goals as goal
 use Rattle.prefix.proofs.prefix_range.Goals.{After-wide-b, Start}
 

@@ -1,14 +1,8 @@
 -- The loop's invariant: of first the bits passed are zero, and last is first with those bits set; one turn is a law of `LowBits`.
-use mathlib.Core.Path.{◌≡◌, refl, sym, ◌∙◌}
-use mathlib.Core.List.{List}
+use mathlib.Core.Path.{◌≡◌}
 use Prim.Native.Nat.{ℕ, ◌+◌, ◌-◌, ◌*◌, ◌^◌, ◌%◌, ◌≤◌, ◌<◌}
-use native.Mathlib.Omega.{arith}
-use lib.ListN.{length, get_or, length-set}
-use lib.Seq.{get_or-set_other}
-use Rattle.octets.specs.Number.{value, Bytes}
-use Rattle.octets.proofs.Bytes.{array_bytes}
-use Rattle.prefix.proofs.LowBits as low
-use borrow.Author.Rules.{rules}
+use lib.ListN.{length, get_or}
+use Rattle.octets.specs.Number.{value}
 use Rattle.prefix.proofs.prefix_range.Given as goal
 
 abbrev pub invariant-loop-left : goal.invariant-loop-left

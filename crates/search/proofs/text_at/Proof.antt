@@ -30,3 +30,4 @@ returns c =
 
 pub text-at-spec : {M : Type 1} → statement M
 text-at-spec = tie.close (tie.spec (λ c κs. search rules) sub-result part-result-start part-result-end returns)
+
