@@ -62,6 +62,7 @@ position-below (Memᴰ.tail m) = let h = position-below m in omega arith
 
 position_ascends : {bs : List Block} → Laminar bs → {a b : Block} (m : a ∈ bs) (n : b ∈ bs) → a.number < b.number → position m < position n
 unfolding position
+position_ascends Rattle.forest.proofs.Laminar.empty m n h = elim m [ ]
 position_ascends (cons {b = x} p f l) (Memᴰ.head e) (Memᴰ.head g) h = absurd (let k = ap (λ (y : Block). y.number) (e ∙ sym g) in omega arith)
 position_ascends (cons p f l) (Memᴰ.head e) (Memᴰ.tail n) h = omega arith
 position_ascends (cons {b = x} p f l) {a} {b} (Memᴰ.tail m) (Memᴰ.head g) h =
@@ -118,16 +119,16 @@ module _ {bs : List Block} (l : Laminar bs) where
   no_cycle a n s = let h = falls s in omega arith
 
   at-most-position : {x : Block} (m : x ∈ bs) {b n : ℕ} → Steps (up_of bs) x.number n b → n ≤ position m
-  at-most-position m s = go m refl s
+  at-most-position m s = go s m refl
     where
-      go : {x : Block} (m : x ∈ bs) {a b n : ℕ} → a ≡ x.number → Steps (up_of bs) a n b → n ≤ position m
-      go m e none = omega arith
-      go m e (step i s) =
+      go : {a b n : ℕ} → Steps (up_of bs) a n b → {x : Block} (m : x ∈ bs) → a ≡ x.number → n ≤ position m
+      go none m e = omega arith
+      go (step i s) m e =
           let r = up-earlier i in
           let f = r.2 in
           let g = r.3 in
           let h = position_ascends l r.1 m (omega arith) in
-          let k = go r.1 r.2 s in
+          let k = go s r.1 r.2 in
           omega arith
 
   bounded : (q : Range) (a b n : ℕ) → T (well_formed q) → a ∈ up bs q → Steps (up_of bs) a n b → suc n ≤ length bs
@@ -213,14 +214,14 @@ module _ {bs : List Block} (l : Laminar bs) where
       go (missing alone e) (missing also et) = inl (e, et)
 
   steps_cover : {x y : Block} {n : ℕ} → x ∈ bs → y ∈ bs → Steps (down_of bs) x.number n y.number → Covers x.range y.range
-  steps_cover {x} {y} mx my s = go mx refl refl s
+  steps_cover {x} {y} mx my s = go s mx refl refl
     where
-      go : {x : Block} {a b n : ℕ} → x ∈ bs → a ≡ x.number → b ≡ y.number → Steps (down_of bs) a n b → Covers x.range y.range
-      go {x} mx e f none = rw (same_number l mx my (sym e ∙ f)) (omega arith)
-      go {x} mx e f (step {c = c} i s) =
+      go : {a b n : ℕ} → Steps (down_of bs) a n b → {x : Block} → x ∈ bs → a ≡ x.number → b ≡ y.number → Covers x.range y.range
+      go none {x} mx e f = rw (same_number l mx my (sym e ∙ f)) (omega arith)
+      go (step {c = c} i s) {x} mx e f =
           let r = down-members l x.range (subst (λ (ns : List ℕ). c ∈ ns) (ap (down_of bs) e ∙ of_record_lem (down bs) l mx) i) in
           let h : Strictly x.range r.0.range = r.3.has in
-          let k : Covers r.0.range y.range = go r.1 r.2 f s in
+          let k : Covers r.0.range y.range = go s r.1 r.2 f in
           omega arith
 
   -- The largest block strictly inside q that covers b is in the down list of q.

@@ -133,12 +133,14 @@ pub data Placed (a b : Block) : Type 0 where
   behind : Before b a → Placed a b
 
 pub placed : {bs : List Block} → Laminar bs → {a b : Block} → a ∈ bs → b ∈ bs → Placed a b
+placed empty m n = elim m [ ]
 placed (cons p f l) (Memᴰ.head e) (Memᴰ.head g) = same (e ∙ sym g)
 placed (cons p f l) {a} {b} (Memᴰ.head e) (Memᴰ.tail n) = ahead (subst (λ y. Before y b) (sym e) (f b n))
 placed (cons p f l) {a} {b} (Memᴰ.tail m) (Memᴰ.head g) = behind (subst (λ y. Before y a) (sym g) (f a m))
 placed (cons p f l) (Memᴰ.tail m) (Memᴰ.tail n) = placed l m n
 
 pub is-proper : {bs : List Block} → Laminar bs → {a : Block} → a ∈ bs → Proper a.range
+is-proper empty m = elim m [ ]
 is-proper (cons p f l) (Memᴰ.head e) = subst (λ y. Proper y.range) (sym e) p
 is-proper (cons p f l) (Memᴰ.tail m) = is-proper l m
 

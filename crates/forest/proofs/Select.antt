@@ -33,6 +33,7 @@ module _ (f : Block → Bool) where
   select-none (x ∷ bs) n = select-dropped x bs (n x (Memᴰ.head refl)) ∙ select-none bs (λ c m. n c (Memᴰ.tail m))
 
   pub yes-select : (bs : List Block) {b : Block} → b ∈ bs → T (f b) → b.number ∈ select f bs
+  yes-select [] m t = elim m [ ]
   yes-select (x ∷ bs) {b} (Memᴰ.head e) t = rw (select_kept x bs (subst (λ y. T (f y)) e t)) (Memᴰ.head (ap (λ (y : Block). y.number) e))
   yes-select (x ∷ bs) {b} (Memᴰ.tail m) t = go (test (f x)) (yes-select bs m t)
     where
@@ -54,6 +55,7 @@ module _ (f : Block → Bool) where
       go (inr s) rest = let y = rest (rw (select-dropped x bs (T_not (f x) s)) at m) in (y.0, Memᴰ.tail y.1, y.2, y.3)
 
   pub select-one : {bs : List Block} → Laminar bs → {b : Block} → b ∈ bs → T (f b) → ((c : Block) → c ∈ bs → T (f c) → c ≡ b) → select f bs ≡ b.number ∷ []
+  select-one empty m t only = elim m [ ]
   select-one (cons {b = x} {bs = bs} p before l) {b} (Memᴰ.head e) t only =
       select_kept x bs (subst (λ y. T (f y)) e t)
       ∙ ap (λ (ns : List ℕ). x.number ∷ ns) (select-none bs (λ c m s. let h = before-number x c (before c m) in let k = ap (λ (y : Block). y.number) (only c (Memᴰ.tail m) s ∙ e) in omega arith))
@@ -82,6 +84,7 @@ of_record answer (b ∷ bs) n = cond (eqb b.number n) (answer b.range) (of_recor
 
 pub of_record_lem : (answer : Range → List ℕ) {bs : List Block} → Laminar bs → {b : Block} → b ∈ bs → of_record answer bs b.number ≡ answer b.range
 unfolding of_record
+of_record_lem answer empty m = elim m [ ]
 of_record_lem answer (cons {b = x} {bs = bs} p before l) {b} (Memᴰ.head e) =
     rw (eq-eqb x.number b.number (ap (λ (y : Block). y.number) (sym e))) (ap (λ (y : Block). answer y.range) (sym e))
 of_record_lem answer (cons {b = x} {bs = bs} p before l) {b} (Memᴰ.tail m) =

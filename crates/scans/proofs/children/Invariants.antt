@@ -1,0 +1,31 @@
+-- `scans::children` meets its contract: what is found so far, followed by what the pass over the rest finds, is the answer.
+use Prim.Native.Nat.{ℕ, ◌≤◌, ◌<◌, ◌-◌, ◌+◌, ◌*◌}
+use native.Mathlib.Omega.{arith}
+use borrow.Author.Tests.{not-true}
+use mathlib.Core.Logic.{⊎_elim}
+use mathlib.Core.List.{◌++◌, append-nil}
+use mathlib.Core.Path.{◌≡◌, sym, ap, ◌∙◌}
+use lib.ListN.{length, take}
+use Rattle.address.specs.Address.{numbers}
+use Rattle.octets.specs.Positions.{number_in}
+use Rattle.forest.specs.Relations.{down}
+use Rattle.forest.specs.Scans.{down_pass}
+use Rattle.forest.proofs.Scans.{down-scan}
+use Rattle.scans.specs.Standing.{blocks_in}
+use Rattle.containment.specs.Tests.{free_after}
+use Rattle.scans.proofs.Walks.{blocks_left, run-start, run_end, within, asked-accepted, asked-few, Here, comparable}
+use Rattle.scans.proofs.Turns.{down-stop, down-found, down_missed}
+use borrow.Author.Rules.{rules}
+use Rattle.scans.proofs.children.Given as goal
+
+abbrev pub invariant-loop-i : goal.invariant-loop-i
+invariant-loop-i l = (l.blocks.from ≤ l.i)
+    × (l.i ≤ l.blocks.until)
+    × (l.n ≤ l.i)
+    × (length l.hits ≡ 4096)
+    × (0 < l.n → l.kept + 2 * l.width ≤ length l.image)
+    × (take l.n l.hits ++ down_pass (numbers l.range) (free_after l.n (number_in l.image (l.kept + l.width) l.width)) (blocks_left l.image l.blocks.low l.i)
+    ≡ down (blocks_in l.image l.blocks.low) (numbers l.range))
+
+abbrev pub decreases-loop-i : goal.decreases-loop-i
+decreases-loop-i l = l.blocks.until - l.i
