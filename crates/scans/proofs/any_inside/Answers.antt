@@ -1,14 +1,6 @@
-use Prim.Native.Nat.{◌≤◌, ◌-◌}
 use native.Mathlib.Omega.{arith}
-use borrow.Author.Tests.{not-true}
-use mathlib.Core.Path.{◌≡◌}
-use Rattle.octets.specs.Lists.{any}
-use Rattle.address.specs.Address.{numbers}
-use Rattle.address.specs.Ranges.{strictly_inside}
-use Rattle.scans.specs.Standing.{blocks_in}
-use Rattle.scans.proofs.Walks.{blocks_left, run-start, run_end, within, Here, comparable}
+use Rattle.scans.proofs.Walks.{run-start, run_end, within, Here, comparable}
 use Rattle.scans.proofs.Turns.{any-stop, any_found, any_missed}
-use borrow.Author.Rules.{rules}
 use Rattle.scans.proofs.any_inside.Goals as goal
 use Rattle.scans.proofs.any_inside.Goals.{After-range_start-start}
 

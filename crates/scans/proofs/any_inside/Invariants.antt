@@ -1,15 +1,11 @@
 -- `scans::any_inside` meets its contract: the blocks that are still to come have the answer of all.
 use Prim.Native.Nat.{◌≤◌, ◌-◌}
-use native.Mathlib.Omega.{arith}
-use borrow.Author.Tests.{not-true}
 use mathlib.Core.Path.{◌≡◌}
 use Rattle.octets.specs.Lists.{any}
 use Rattle.address.specs.Address.{numbers}
 use Rattle.address.specs.Ranges.{strictly_inside}
 use Rattle.scans.specs.Standing.{blocks_in}
-use Rattle.scans.proofs.Walks.{blocks_left, run-start, run_end, within, Here, comparable}
-use Rattle.scans.proofs.Turns.{any-stop, any_found, any_missed}
-use borrow.Author.Rules.{rules}
+use Rattle.scans.proofs.Walks.{blocks_left}
 use Rattle.scans.proofs.any_inside.Given as goal
 
 abbrev pub invariant-loop-i : goal.invariant-loop-i

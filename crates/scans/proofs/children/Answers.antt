@@ -1,22 +1,16 @@
-use Prim.Native.Nat.{ℕ, ◌≤◌, ◌<◌, ◌-◌, ◌+◌, ◌*◌}
+use Prim.Native.Nat.{ℕ, ◌+◌}
 use native.Mathlib.Omega.{arith}
-use borrow.Author.Tests.{not-true}
-use mathlib.Core.Logic.{⊎_elim}
-use mathlib.Core.List.{◌++◌, append-nil}
-use mathlib.Core.Path.{◌≡◌, sym, ap, ◌∙◌}
-use lib.ListN.{length, take}
-use Rattle.address.specs.Address.{numbers}
+use mathlib.Core.List.{append-nil}
+use mathlib.Core.Path.{sym, ap, ◌∙◌}
+use lib.ListN.{take}
 use Rattle.octets.specs.Positions.{number_in}
-use Rattle.forest.specs.Relations.{down}
-use Rattle.forest.specs.Scans.{down_pass}
 use Rattle.forest.proofs.Scans.{down-scan}
-use Rattle.scans.specs.Standing.{blocks_in}
 use Rattle.containment.specs.Tests.{free_after}
-use Rattle.scans.proofs.Walks.{blocks_left, run-start, run_end, within, asked-accepted, asked-few, Here, comparable}
+use Rattle.scans.proofs.Walks.{run-start, run_end, within, asked-accepted, asked-few, Here, comparable}
 use Rattle.scans.proofs.Turns.{down-stop, down-found, down_missed}
 use borrow.Author.Rules.{rules}
 use Rattle.scans.proofs.children.Goals as goal
-use Rattle.scans.proofs.children.Goals.{After-range_start-at, At-loop-i}
+use Rattle.scans.proofs.children.Goals.{After-range_start-at, At-loop-i, then-keeps, else-keeps}
 
 -- the record of this turn
 here : (c : After-range_start-at) → let a = c.args in
@@ -32,7 +26,7 @@ here c =
 
 -- the last address of the block that was kept
 abbrev last-kept : At-loop-i → ℕ
-last-kept c = let width = c.width_of-width.result in number_in c.args.image.now (c.loop-i.auto + width) width
+last-kept c = let width = c.width_of-width.result in number_in c.args.image.now (c.loop-i.kept + width) width
 
 pub loop-i-init : goal.loop-i-init
 loop-i-init c =
@@ -60,7 +54,7 @@ returns-then-not-at_least_at c =
       few = omega arith;
       same =
           sym (append-nil (take l.n l.hits))
-          ∙ (rw (down-stop (here (goal.at.returns-then-not-at_least_at c).After-range_start-at) c.at_least_at.ensures (c.if-not-at_least_at.true) (free_after l.n (last-kept (goal.at.returns-then-not-at_least_at c).At-loop-i))) at l.invariant.5);
+          ∙ (rw (down-stop (here (goal.at.returns-then-not-at_least_at c).After-range_start-at) c.at_least_at.ensures c.if-not-at_least_at.true (free_after l.n (last-kept (goal.at.returns-then-not-at_least_at c).At-loop-i))) at l.invariant.5);
     }
 
 pub keeps-requires : goal.keeps-requires
@@ -78,14 +72,14 @@ loop-i-preserved c =
     let a = c.args in
     let v = c.width_of-width.result in
     let k = asked-few c.requires.0 in
-    ⊎_elim
-    (λ w.
-    let r = down-found (here (goal.at.loop-i-preserved c).After-range_start-at) l.n (last-kept (goal.at.loop-i-preserved c).At-loop-i) c.keeps.ensures l.hits l.invariant.3 l.invariant.5 w.0.true (omega arith) w.1 w.2 (ap (λ (p : ℕ). number_in a.image.now (p + v) v) w.3) in
-    (omega arith, omega arith, omega arith, r.0, λ h. rw w.3 (comparable (here (goal.at.loop-i-preserved c).After-range_start-at)).fits, r.1))
-    (λ w.
-    let r = down_missed (here (goal.at.loop-i-preserved c).After-range_start-at) l.n (last-kept (goal.at.loop-i-preserved c).At-loop-i) c.keeps.ensures l.hits l.invariant.3 l.invariant.5 w.0.left w.1 w.2 (ap (λ (p : ℕ). number_in a.image.now (p + v) v) w.3) in
-    (omega arith, omega arith, omega arith, r.0, λ h. rw w.3 (l.invariant.4 (omega arith)), r.1))
-    c.if-keeps.branch
+    elim c.if-keeps.branch [
+      | then-keeps w ↦
+          let r = down-found (here (goal.at.loop-i-preserved c).After-range_start-at) l.n (last-kept (goal.at.loop-i-preserved c).At-loop-i) c.keeps.ensures l.hits l.invariant.3 l.invariant.5 w.if-keeps.true (omega arith) w.hits-is w.n-is (ap (λ (p : ℕ). number_in a.image.now (p + v) v) w.kept-is) in
+          (omega arith, omega arith, omega arith, r.0, λ h. rw w.kept-is (comparable (here (goal.at.loop-i-preserved c).After-range_start-at)).fits, r.1)
+      | else-keeps w ↦
+          let r = down_missed (here (goal.at.loop-i-preserved c).After-range_start-at) l.n (last-kept (goal.at.loop-i-preserved c).At-loop-i) c.keeps.ensures l.hits l.invariant.3 l.invariant.5 w.if-keeps.false w.hits-is w.n-is (ap (λ (p : ℕ). number_in a.image.now (p + v) v) w.kept-is) in
+          (omega arith, omega arith, omega arith, r.0, λ h. rw w.kept-is (l.invariant.4 (omega arith)), r.1)
+    ]
 
 pub returns : goal.returns
 returns c =

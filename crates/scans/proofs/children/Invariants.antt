@@ -1,21 +1,15 @@
 -- `scans::children` meets its contract: what is found so far, followed by what the pass over the rest finds, is the answer.
-use Prim.Native.Nat.{ℕ, ◌≤◌, ◌<◌, ◌-◌, ◌+◌, ◌*◌}
-use native.Mathlib.Omega.{arith}
-use borrow.Author.Tests.{not-true}
-use mathlib.Core.Logic.{⊎_elim}
-use mathlib.Core.List.{◌++◌, append-nil}
-use mathlib.Core.Path.{◌≡◌, sym, ap, ◌∙◌}
+use Prim.Native.Nat.{◌≤◌, ◌<◌, ◌-◌, ◌+◌, ◌*◌}
+use mathlib.Core.List.{◌++◌}
+use mathlib.Core.Path.{◌≡◌}
 use lib.ListN.{length, take}
 use Rattle.address.specs.Address.{numbers}
 use Rattle.octets.specs.Positions.{number_in}
 use Rattle.forest.specs.Relations.{down}
 use Rattle.forest.specs.Scans.{down_pass}
-use Rattle.forest.proofs.Scans.{down-scan}
 use Rattle.scans.specs.Standing.{blocks_in}
 use Rattle.containment.specs.Tests.{free_after}
-use Rattle.scans.proofs.Walks.{blocks_left, run-start, run_end, within, asked-accepted, asked-few, Here, comparable}
-use Rattle.scans.proofs.Turns.{down-stop, down-found, down_missed}
-use borrow.Author.Rules.{rules}
+use Rattle.scans.proofs.Walks.{blocks_left}
 use Rattle.scans.proofs.children.Given as goal
 
 abbrev pub invariant-loop-i : goal.invariant-loop-i

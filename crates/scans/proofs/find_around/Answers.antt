@@ -1,17 +1,12 @@
-use Prim.Native.Nat.{◌≤◌, ◌-◌}
 use native.Mathlib.Omega.{arith}
-use borrow.Author.Tests.{not-true, not-false}
-use mathlib.Core.Logic.{⊎_elim}
 use mathlib.Core.Path.{◌≡◌, ◌∙◌}
 use Rattle.address.specs.Address.{numbers}
 use Rattle.scans.specs.Around.{around_in}
 use Rattle.scans.specs.Standing.{blocks_in}
-use Rattle.containment.specs.Tests.{surrounds_by}
-use Rattle.scans.proofs.Walks.{blocks_left, run-start, run_end, within, Here, comparable}
-use Rattle.scans.proofs.Turns.{passed, run-scan, Passing, at_first, none_more, at-end, after, not_after, first_found, last_found, around_missed}
-use borrow.Author.Rules.{rules}
+use Rattle.scans.proofs.Walks.{run-start, run_end, within, Here, comparable}
+use Rattle.scans.proofs.Turns.{passed, run-scan, at_first, none_more, at-end, after, not_after, first_found, last_found, around_missed}
 use Rattle.scans.proofs.find_around.Goals as goal
-use Rattle.scans.proofs.find_around.Goals.{After-is_first-first, After-range_start-at}
+use Rattle.scans.proofs.find_around.Goals.{After-is_first-first, After-range_start-at, then-surrounds+else-first, else-surrounds}
 
 -- what the pass finds is what is asked
 answer : (c : After-is_first-first) → let a = c.args in
@@ -32,17 +27,17 @@ range_start-at-requires c =
 here : (c : After-range_start-at) → let a = c.args in
     Here a.image.now a.starts.now a.blocks a.range c.loop-i.i c.range_start-at.result c.width_of-width.result
 here c =
-    record { asked = c.requires; low = c.loop-i.invariant.0; high = c.loop-i-test.true; start = c.range_start-at.ensures; c = c.width_of-width.ensures.0 }
+    record { asked = c.requires; low = c.loop-i.invariant.0; high = c.loop-i-test.true; start = c.range_start-at.ensures; wide = c.width_of-width.ensures.0 }
 
 pub at_least_at-requires : goal.at_least_at-requires
 at_least_at-requires c = let k = comparable (here (goal.at.at_least_at-requires c).After-range_start-at) in (k.wide, omega (arith, k.fits))
 
 pub returns-then-not-at_least_at : goal.returns-then-not-at_least_at
 returns-then-not-at_least_at c =
-    none_more _ _ _ (after (here (goal.at.returns-then-not-at_least_at c).After-range_start-at) c.at_least_at.ensures (c.if-not-at_least_at.true) c.is_strict-strict.result) c.loop-i.invariant.2 ∙ answer (goal.at.returns-then-not-at_least_at c).After-is_first-first
+    none_more _ _ _ (after (here (goal.at.returns-then-not-at_least_at c).After-range_start-at) c.at_least_at.ensures c.if-not-at_least_at.true c.is_strict-strict.result) c.loop-i.invariant.2 ∙ answer (goal.at.returns-then-not-at_least_at c).After-is_first-first
 
 pub surrounds-requires : goal.surrounds-requires
-surrounds-requires c = let h = here (goal.at.surrounds-requires c).After-range_start-at in (comparable h, not_after h c.at_least_at.ensures (c.if-not-at_least_at.false))
+surrounds-requires c = let h = here (goal.at.surrounds-requires c).After-range_start-at in (comparable h, not_after h c.at_least_at.ensures c.if-not-at_least_at.false)
 
 pub returns-then-first : goal.returns-then-first
 returns-then-first c =
@@ -51,10 +46,10 @@ returns-then-first c =
 pub loop-i-preserved : goal.loop-i-preserved
 loop-i-preserved c =
     let l = c.loop-i in
-    ⊎_elim
-    (λ w. (omega arith, omega arith, last_found (here (goal.at.loop-i-preserved c).After-range_start-at) c.is_strict-strict.result c.surrounds.ensures w.0.true l.found w.1.left w.2 l.invariant.2))
-    (λ w. (omega arith, omega arith, around_missed (here (goal.at.loop-i-preserved c).After-range_start-at) c.is_strict-strict.result c.surrounds.ensures w.0.left _ l.found w.1 l.invariant.2))
-    c.if-surrounds.branch
+    elim c.if-surrounds.branch [
+      | then-surrounds+else-first w ↦ (omega arith, omega arith, last_found (here (goal.at.loop-i-preserved c).After-range_start-at) c.is_strict-strict.result c.surrounds.ensures w.if-surrounds.true l.found w.if-first.false w.found-is l.invariant.2)
+      | else-surrounds w ↦ (omega arith, omega arith, around_missed (here (goal.at.loop-i-preserved c).After-range_start-at) c.is_strict-strict.result c.surrounds.ensures w.if-surrounds.false _ l.found w.found-is l.invariant.2)
+    ]
 
 pub returns : goal.returns
 returns c =

@@ -1,16 +1,9 @@
 -- The pass over the rest of the run, from what is found so far, gives the answer.
 use Prim.Native.Nat.{◌≤◌, ◌-◌}
-use native.Mathlib.Omega.{arith}
-use borrow.Author.Tests.{not-true, not-false}
-use mathlib.Core.Logic.{⊎_elim}
-use mathlib.Core.Path.{◌≡◌, ◌∙◌}
 use Rattle.address.specs.Address.{numbers}
-use Rattle.scans.specs.Around.{around_in}
-use Rattle.scans.specs.Standing.{blocks_in}
 use Rattle.containment.specs.Tests.{surrounds_by}
-use Rattle.scans.proofs.Walks.{blocks_left, run-start, run_end, within, Here, comparable}
-use Rattle.scans.proofs.Turns.{passed, run-scan, Passing, at_first, none_more, at-end, after, not_after, first_found, last_found, around_missed}
-use borrow.Author.Rules.{rules}
+use Rattle.scans.proofs.Walks.{blocks_left}
+use Rattle.scans.proofs.Turns.{passed, Passing}
 use Rattle.scans.proofs.find_around.Given as goal
 
 abbrev pub invariant-loop-i : goal.invariant-loop-i

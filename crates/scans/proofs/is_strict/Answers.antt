@@ -1,5 +1,4 @@
 -- Each case by itself, so that an edit of one is refused there.
-use borrow.Author.Rules.{rules}
 use Rattle.scans.proofs.is_strict.Goals as goal
 
 pub returns-in-Lookup : goal.returns-in-Lookup
