@@ -187,6 +187,8 @@ refuses 'image is a folder' "$work: Is a directory" "$work" changes output
 refuses 'changes are a folder' "$work: Is a directory" image "$work" output
 refuses 'empty name of image' ': No such file or directory' '' changes output
 refuses 'empty name of changes' ': No such file or directory' image '' output
+refuses 'name of image that is not UTF-8' $'\xff: invalid filename' $'\xff' changes output
+refuses 'name of changes that is not UTF-8' $'\xff: invalid filename' image $'\xff' output
 for n in 0 1 2 4; do
     set -- image changes output more
     set -- "${@:1:n}"
@@ -209,6 +211,7 @@ refuses 'output is a pipe' "$work/pipe: not a regular file" image changes "$work
 [ -p "$work/pipe" ] && [ "$(echo "$work"/pipe*)" = "$work/pipe" ]
 told 'the pipe is left' $?
 refuses 'empty name of output' ': No such file or directory' image changes ''
+refuses 'name of output that is not UTF-8' $'\xff: invalid filename' image changes $'\xff'
 letters=$(printf '%0249d' 0)
 refuses 'output with a name of 249 bytes' "$letters: File name too long" image changes "$letters"
 letters=$(printf '%04096d' 0)

@@ -199,6 +199,9 @@ writes '4,096 networks' <(python3 "$tests/filters.py" 4096 cisco) 4096 cisco
 "$program" 4096 plain >/dev/full 2>"$work/err"
 [ "$(<"$work/err")" = 'standard output: No space left on device' ]
 told "standard output is full: '$(<"$work/err")'" $?
+"$program" 4096 plain 2>"$work/err" | head -n 1 >"$work/out"
+[ ! -s "$work/err" ] && [ "$(wc -l <"$work/out")" -eq 1 ]
+told "standard output is read to its first line: '$(<"$work/err")'" $?
 "$program" campus bird >&- 2>"$work/err"
 [ "$(<"$work/err")" = 'standard output: Bad file descriptor' ]
 told "standard output is closed: '$(<"$work/err")'" $?
@@ -236,6 +239,7 @@ refuses 'image without end' '/dev/zero: longer than 262144 bytes' /dev/zero json
 refuses 'missing image' 'missing: No such file or directory' missing
 refuses 'image is a folder' "$work: Is a directory" "$work"
 refuses 'empty name of image' ': No such file or directory' ''
+refuses 'name of image that is not UTF-8' $'\xff: invalid filename' $'\xff'
 refuses 'name of 4,097 bytes' 'IMAGE: File name too long' "$(printf '%04097d' 0)"
 
 # The arguments.

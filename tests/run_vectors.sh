@@ -94,6 +94,10 @@ yes /help | head -n 200000 > "$work/paths"
 yes "$help" | head -n 200000 > "$work/expected"
 expect "1,200,000 bytes of paths" "$work/paths" "$vectors/empty.image" "$work/expected"
 
+"$program" "$work/paths" "$vectors/empty.image" 2> "$work/err" | head -n 1 > "$work/out"
+[ ! -s "$work/err" ] && [ "$(< "$work/out")" = "$help" ]
+tell "output that is read to its first line" $?
+
 expect "paths from a pipe" <(cat "$vectors/campus.paths") "$campus" "$vectors/campus.expected"
 expect "image from a pipe" "$vectors/campus.paths" <(cat "$campus") "$vectors/campus.expected"
 
@@ -114,6 +118,8 @@ refuse "missing image" "$work/missing" "$work/paths" "$work/missing"
 refuse "paths are a folder" "$work" "$work" "$campus"
 refuse "image is a folder" "$work" "$work/paths" "$work"
 refuse "empty name of paths" "No such file" "" "$campus"
+refuse "name of paths that is not UTF-8" "invalid filename" $'\xff' "$campus"
+refuse "name of image that is not UTF-8" "invalid filename" "$work/paths" $'\xff'
 refuse "no argument" usage
 refuse "one argument" usage "$work/paths"
 refuse "three arguments" usage "$work/paths" "$campus" "$campus"
