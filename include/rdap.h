@@ -16,7 +16,7 @@
  *
  * Calls are pure: there is no state, the result depends on the arguments alone, and no call fails, waits or sets errno.
  * Calls may run in parallel, on the same image too, if each has its own list, out or text and reply or part.
- * A fold needs some 95 kB of stack, a relation some 75 kB, in a batch too, any other call some 40 kB.
+ * A fold needs some 95 kB of stack, a relation some 90 kB, in a batch too, any other call some 40 kB.
  */
 #ifndef RDAP_H
 #define RDAP_H
