@@ -169,9 +169,7 @@ fn answer_lines(
     chunk: &mut [u8],
     first: usize,
     image: &[u8],
-) -> io::Result<()>
-    requires { first ≤ length chunk.old }
-{
+) -> io::Result<()> {
     let mut line = [0u8; 1025];
     let mut list = [0u32; MOST_RECORDS];
     let mut out = [0u8; 77868];
@@ -187,7 +185,7 @@ fn answer_lines(
                 kept = take_bytes(
                     rt,
                     err,
-                    &chunk[..n],
+                    part(chunk, 0, n),
                     &mut line,
                     kept,
                     image,
