@@ -61,6 +61,14 @@ struct Kept {
     unread: bool,
 }
 
+fn nothing_kept() -> Kept {
+    Kept {
+        line: 0,
+        out: 0,
+        unread: false,
+    }
+}
+
 // Keeps a byte of a line. More than 1,025 are too long in the same way.
 fn keep(line: &mut [u8; 1025], len: usize, b: u8) -> usize {
     if len < 1025 {
@@ -173,11 +181,7 @@ fn answer_lines(
     let mut line = [0u8; 1025];
     let mut list = [0u32; MOST_RECORDS];
     let mut out = [0u8; 77868];
-    let mut kept = Kept {
-        line: 0,
-        out: 0,
-        unread: false,
-    };
+    let mut kept = nothing_kept();
     let mut got = Ok(first);
     for _ in 0..u64::MAX {
         match got {
