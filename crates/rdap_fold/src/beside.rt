@@ -122,7 +122,7 @@ fn try_replace<R: Files<File = File> + RandomSource>(
 }
 
 // The same. Where that fails, says so.
-pub fn replace<R: Files<File = File> + RandomSource>(
+pub fn put_in_place<R: Files<File = File> + RandomSource>(
     rt: &R,
     err: &impl Print,
     output: &[u8],

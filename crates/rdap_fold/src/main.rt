@@ -195,7 +195,7 @@ fn save<R: Files<File = File> + RandomSource>(
         tell(err, b": not a regular file\n");
         return false;
     }
-    beside::replace(rt, err, output, bytes, old)
+    beside::put_in_place(rt, err, output, bytes, old)
 }
 
 // The number of bytes, on standard output.
