@@ -209,10 +209,24 @@ pub fn read_full(from: &mut impl Read, room: &mut [u8]) -> (usize, io::Result<()
     (done, Ok(()))
 }
 
+// Asks once more for what stands after the end: a file that has grown meanwhile is refused.
+fn ends(from: &mut impl Read) -> io::Result<()> {
+    let mut more = [0u8; 1];
+    let (n, ended) = read_full(from, &mut more);
+    ended?;
+    if n == 0 {
+        return Ok(());
+    }
+    Err(io::Error::from_raw_os_error(0))
+}
+
 fn read_file(rt: &impl Files, name: &[u8], room: &mut [u8]) -> io::Result<usize> {
     let mut file = fs::open(rt, path_of(name)?)?;
     let (n, ended) = read_full(&mut file, room);
     ended?;
+    if n < room.len() {
+        ends(&mut file)?;
+    }
     Ok(n)
 }
 

@@ -28,17 +28,26 @@ fn letter(b: u8) -> u8 {
     b'a' + b % 26
 }
 
-// Replaces the last six bytes of the name by letters that nobody can foresee.
-fn draw_letters(rt: &impl RandomSource, name: &mut [u8]) -> io::Result<()>
+// The number of a try as bytes, for a system that gives no random ones: no file is taken for another, since it must not have been there.
+fn number_bytes(mut number: u32, bytes: &mut [u8]) {
+    for b in bytes.iter_mut() {
+        *b = (number % 26) as u8;
+        number /= 26;
+    }
+}
+
+// Replaces the last six bytes of the name by letters that nobody can foresee, where the system has such.
+fn draw_letters(rt: &impl RandomSource, number: u32, name: &mut [u8])
     requires { 6 ≤ length name.old }
 {
     let from = name.len() - 6;
     let last = &mut name[from..];
-    rt.fill_bytes(last)?;
+    if rt.fill_bytes(last).is_err() {
+        number_bytes(number, last);
+    }
     for b in last.iter_mut() {
         *b = letter(*b);
     }
-    Ok(())
 }
 
 // The system's number for a name that is taken, and how many names are tried before it is told.
@@ -52,8 +61,8 @@ fn make_new<R: Files + RandomSource>(rt: &R, name: &mut [u8], mode: u32) -> io::
 {
     let mut how = OpenOptions::new();
     how.write(true).create_new(true).mode(mode);
-    for _ in 0..TRIES {
-        draw_letters(rt, name)?;
+    for number in 0..TRIES {
+        draw_letters(rt, number, name);
         match how.open(rt, path_of(name)?) {
             Ok(file) => return Ok(file),
             Err(e) => {

@@ -13,7 +13,7 @@ pub struct Known {
     pub is_regular: bool,
 }
 
-// Nothing, if there is no such file.
+// Nothing, if there is no such file or the system does not say.
 pub fn of_file(rt: &impl Files, name: &[u8]) -> Option<Known> {
     let Ok(path) = path_of(name) else {
         return None;
