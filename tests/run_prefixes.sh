@@ -200,7 +200,7 @@ writes '4,096 networks' <(python3 "$tests/filters.py" 4096 cisco) 4096 cisco
 [ "$(<"$work/err")" = 'standard output: No space left on device' ]
 told "standard output is full: '$(<"$work/err")'" $?
 "$program" 4096 plain 2>"$work/err" | head -n 1 >"$work/out"
-[ ! -s "$work/err" ] && [ "$(wc -l <"$work/out")" -eq 1 ]
+[ "$(<"$work/err")" = 'standard output: Broken pipe' ] && [ "$(wc -l <"$work/out")" -eq 1 ]
 told "standard output is read to its first line: '$(<"$work/err")'" $?
 "$program" campus bird >&- 2>"$work/err"
 [ "$(<"$work/err")" = 'standard output: Bad file descriptor' ]

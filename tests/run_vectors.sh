@@ -95,7 +95,7 @@ yes "$help" | head -n 200000 > "$work/expected"
 expect "1,200,000 bytes of paths" "$work/paths" "$vectors/empty.image" "$work/expected"
 
 "$program" "$work/paths" "$vectors/empty.image" 2> "$work/err" | head -n 1 > "$work/out"
-[ ! -s "$work/err" ] && [ "$(< "$work/out")" = "$help" ]
+[ "$(< "$work/err")" = 'standard output: Broken pipe' ] && [ "$(< "$work/out")" = "$help" ]
 tell "output that is read to its first line" $?
 
 expect "paths from a pipe" <(cat "$vectors/campus.paths") "$campus" "$vectors/campus.expected"

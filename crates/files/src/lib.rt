@@ -271,11 +271,9 @@ pub fn is_unread(why: &io::Error) -> bool {
     why.kind() == ErrorKind::BrokenPipe
 }
 
-// What kept the output from being written. Where nobody reads it any more, nobody is told.
+// What kept the output from being written.
 pub fn tell_unwritten(err: &impl Print, why: &io::Error) {
-    if !is_unread(why) {
-        fail(err, b"standard output", why);
-    }
+    fail(err, b"standard output", why);
 }
 
 // Writes the bytes to standard output. Where that fails, says so.

@@ -21,8 +21,11 @@ use std::{fs, io};
 
 // The output: what was put stands at the start of a buffer of 32,768 bytes and room for a line.
 
-// Writes out what was put, and notes whether nobody reads it any more.
+// Writes out what was put, and notes whether nobody reads it any more: then no more is written.
 fn flush(rt: &impl Print, err: &impl Print, out: &[u8; 77868], at: usize, unread: &mut bool) {
+    if *unread {
+        return;
+    }
     if let Err(e) = write_out(rt, err, part(out, 0, at)) {
         *unread = is_unread(&e);
     }
