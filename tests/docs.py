@@ -104,7 +104,6 @@ for row in table.split("\n")[2:]:
         crate = named[1] or crate
         believed[crate, named[2]] = int(named[3])
 if "--lines" in sys.argv[1:]:
-    crate = None
     for crate, name in believed:
         believed[crate, name] = text(CRATES / crate / "specs" / f"{name}.antt").count("\n")
     rows = []

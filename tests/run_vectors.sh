@@ -2,27 +2,14 @@
 # Runs the small program on the vectors and on files at its limits.
 # usage: tests/run_vectors.sh [PROGRAM], which is crates/rdap_paths/out/rdap_paths if none is named, and is built if it is missing
 # Prints a line for each test, and last how many passed and failed.
-
+set -u
 . "$(dirname "$0")/tally.sh"
-program=${1-$(program_of rdap_paths)}
-if [ $# -gt 1 ] || [ ! -x "$program" ]; then
-    echo "usage: $0 [PROGRAM]" >&2
-    exit 2
-fi
-program=$(realpath "$program")
-vectors=$(realpath "$(dirname "$0")/vectors")
-work=$(mktemp -d)
-trap 'rm -rf "$work"' EXIT
+under_test rdap_paths "$@"
 
-# tell NAME STATUS: counts a test whose last command ended with the status.
+# tell NAME STATUS: counts a test whose last command ended with the status, and prints it.
 tell() {
-    if [ "$2" -eq 0 ]; then
-        passed=$((passed + 1))
-        echo "ok $1"
-    else
-        failed=$((failed + 1))
-        echo "FAILED $1"
-    fi
+    [ "$2" -ne 0 ] || echo "ok $1"
+    told "$1" "$2"
 }
 
 # expect NAME PATHS IMAGE EXPECTED: the program writes just that, and nothing to standard error.

@@ -2,7 +2,7 @@
 // A name is any bytes as the program was given it. To open a file its name must be UTF-8 text.
 #![tactic(auto)]
 
-ghost use Rattle.std.specs.Prelude.{◌≡◌, ◌+◌, ◌≤◌, ◌<◌, IfSome, length};
+ghost use Rattle.std.specs.Prelude.{◌≡◌, ◌+◌, ◌≤◌, ◌<◌, IfOk, IfSome, length};
 ghost use Rattle.registry.specs.Limits.{most_image};
 
 use registry::{MOST_COUNT, MOST_IMAGE};
@@ -187,6 +187,23 @@ pub fn path_of(name: &[u8]) -> io::Result<&str> {
     }
 }
 
+// One read, again where a signal cut it short.
+pub fn read_some(from: &mut impl Read, room: &mut [u8]) -> io::Result<usize>
+    ensures { IfOk result (λ n. n ≤ length room.new) }
+{
+    for _ in 0..u64::MAX {
+        match from.read(room) {
+            Ok(n) => return Ok(n),
+            Err(e) => {
+                if e.kind() != ErrorKind::Interrupted {
+                    return Err(e);
+                }
+            }
+        }
+    }
+    Ok(0)
+}
+
 // Reads until the room is full, the input ends or a read fails. Gives how many bytes stand in the room, and how the reading ended.
 pub fn read_full(from: &mut impl Read, room: &mut [u8]) -> (usize, io::Result<()>)
     ensures { result.0 ≤ length room.new }
@@ -196,14 +213,10 @@ pub fn read_full(from: &mut impl Read, room: &mut [u8]) -> (usize, io::Result<()
         if done >= room.len() {
             break;
         }
-        match from.read(&mut room[done..]) {
+        match read_some(from, &mut room[done..]) {
             Ok(0) => break,
             Ok(n) => done += n,
-            Err(e) => {
-                if e.kind() != ErrorKind::Interrupted {
-                    return (done, Err(e));
-                }
-            }
+            Err(e) => return (done, Err(e)),
         }
     }
     (done, Ok(()))
@@ -265,11 +278,6 @@ pub fn part(s: &[u8], start: usize, end: usize) -> &[u8]
 }
 
 // Standard output.
-
-// Whether a write failed since nobody reads any more.
-pub fn is_unread(why: &io::Error) -> bool {
-    why.kind() == ErrorKind::BrokenPipe
-}
 
 // What kept the output from being written.
 pub fn tell_unwritten(err: &impl Print, why: &io::Error) {

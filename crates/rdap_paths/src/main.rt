@@ -11,7 +11,7 @@ ghost use Rattle.lines.specs.Lined.{longest_line, line_of};
 ghost use Rattle.output.specs.Writing.{Written};
 
 use files::{
-    MOST_NAME, argument, fail, has_just, is_unread, part, path_of, read_whole, small_room, tell,
+    MOST_NAME, argument, fail, has_just, part, path_of, read_some, read_whole, small_room, tell,
     write_out,
 };
 use registry::{MOST_RECORDS, PerRecord};
@@ -21,13 +21,14 @@ use std::{fs, io};
 
 // The output: what was put stands at the start of a buffer of 32,768 bytes and room for a line.
 
-// Writes out what was put, and notes whether nobody reads it any more: then no more is written.
-fn flush(rt: &impl Print, err: &impl Print, out: &[u8; 77868], at: usize, unread: &mut bool) {
-    if *unread {
-        return;
+// Writes out what was put, unless nobody reads that any more. Gives whether that is so afterwards.
+fn flush(rt: &impl Print, err: &impl Print, out: &[u8; 77868], at: usize, unread: bool) -> bool {
+    if unread {
+        return true;
     }
-    if let Err(e) = write_out(rt, err, part(out, 0, at)) {
-        *unread = is_unread(&e);
+    match write_out(rt, err, part(out, 0, at)) {
+        Ok(()) => false,
+        Err(e) => e.kind() == ErrorKind::BrokenPipe,
     }
 }
 
@@ -44,7 +45,7 @@ fn make_room(
     if at < 32768 {
         return at;
     }
-    flush(rt, err, out, at, unread);
+    *unread = flush(rt, err, out, at, *unread);
     0
 }
 
@@ -151,25 +152,7 @@ fn finish(
     if 0 < kept.line {
         last = end_line(rt, err, line, kept, image, list, out);
     }
-    let mut unread = last.unread;
-    flush(rt, err, out, last.out, &mut unread);
-}
-
-// One read, again where a signal cut it short.
-fn read_some(from: &mut impl Read, chunk: &mut [u8]) -> io::Result<usize>
-    ensures { IfOk result (λ n. n ≤ length chunk.new) }
-{
-    for _ in 0..u64::MAX {
-        match from.read(chunk) {
-            Ok(n) => return Ok(n),
-            Err(e) => {
-                if e.kind() != ErrorKind::Interrupted {
-                    return Err(e);
-                }
-            }
-        }
-    }
-    Ok(0)
+    flush(rt, err, out, last.out, last.unread);
 }
 
 // Answers the paths of a file whose first bytes are read.
