@@ -72,7 +72,7 @@ renames ENT-1 'Ada Lovelace' tests/vectors/defective.image 1 'reason 2, defect 3
 nm "$archive" | awk '{ print $NF }' >"$out/symbols"
 while read -r how name; do
     case $how in part) wanted=1 ;; alone) wanted=0 ;; *) continue ;; esac
-    grep -qsE "^ *(pub )?fn ${name#*::}\b" crates/"${name%%::*}"/src/*.rt
+    grep -qsE "^ *(pub )?fn ${name##*::}\b" crates/"${name%%::*}"/src/*.rt
     told "tests/inlined.txt: there is no function $name" $?
     grep -qxF -- "$name" "$out/symbols"
     [ $? -eq $wanted ]

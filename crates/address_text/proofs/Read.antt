@@ -1,18 +1,16 @@
 -- An address that was read is made of bytes.
+use Rattle.std.specs.Prelude.{Option, None, Some}
 use Prim.Native.Nat.{ℕ, ◌+◌, ◌-◌, ◌/◌, ◌%◌, ◌≤◌}
 use Prim.Native.Char.{code}
 use mathlib.Core.Path.{◌≡◌, refl, subst}
 use mathlib.Core.List.{List, [], ◌∷◌, ◌++◌}
 use mathlib.Core.Bool.{Bool, true, false, cond}
-use mathlib.Core.Option.{Option, none, some}
 use native.Mathlib.Omega.{arith}
 use lib.Dec.{eqb, leb, ltb}
 use lib.ListN.{length, take, drop, replicate}
 use Rattle.octets.specs.Number.{Bytes}
 use Rattle.octets.proofs.Below.{digits-none, digits-cons, digits_append, digits-zeros}
 use Rattle.numeral.specs.Numeral.{decimal, h16}
-use Rattle.numeral.specs.declared.Number.{Number}
-use Rattle.numeral.specs.declared.Number.TheVariants.{Value, Malformed}
 use Rattle.numeral.proofs.Laws.{decimal_le, h16_le}
 use Rattle.octets.specs.Split.{split}
 use Rattle.octets.proofs.Found.{none-some, cond-some}
@@ -21,46 +19,46 @@ use Rattle.elision.specs.Elision.{elided, elision}
 use Rattle.ipv6.specs.Ipv6.{two_bytes, group, or_else, last_group, groups, side, ipv6}
 use Rattle.ip.specs.Ip.{without_zone, address_of}
 
-pub some_is : {x y : List ℕ} → ◌≡◌ {A = Option (List ℕ)} (some x) (some y) → x ≡ y
+pub some_is : {x y : List ℕ} → ◌≡◌ {A = Option (List ℕ)} (Some x) (Some y) → x ≡ y
 some_is e = cc
 
 -- whatever is answered is made of bytes
 abbrev OfBytes : Option (List ℕ) → Type 0
-OfBytes o = (a : List ℕ) → o ≡ some a → Bytes a
+OfBytes o = (a : List ℕ) → o ≡ Some a → Bytes a
 
-by_bytes : {x a : List ℕ} → Bytes x → ◌≡◌ {A = Option (List ℕ)} (some x) (some a) → Bytes a
+by_bytes : {x a : List ℕ} → Bytes x → ◌≡◌ {A = Option (List ℕ)} (Some x) (Some a) → Bytes a
 by_bytes b e = subst Bytes (some_is e) b
 
-none-bytes : OfBytes none
+none-bytes : OfBytes None
 none-bytes a e = none-some a e
 
 prefixed-bytes : (x : List ℕ) (o : Option (List ℕ)) → Bytes x → OfBytes o → OfBytes (prefixed x o)
 unfolding prefixed
-prefixed-bytes x none b f = none-bytes
-prefixed-bytes x (some y) b f = λ a e. by_bytes (digits_append 256 x y b (f y refl)) e
+prefixed-bytes x None b f = none-bytes
+prefixed-bytes x (Some y) b f = λ a e. by_bytes (digits_append 256 x y b (f y refl)) e
 
 joined_bytes : (o p : Option (List ℕ)) → OfBytes o → OfBytes p → OfBytes (joined o p)
 unfolding joined
-joined_bytes none p f g = none-bytes
-joined_bytes (some x) p f g = prefixed-bytes x p (f x refl) g
+joined_bytes None p f g = none-bytes
+joined_bytes (Some x) p f g = prefixed-bytes x p (f x refl) g
 
 exactly-bytes : (n : ℕ) (o : Option (List ℕ)) → OfBytes o → OfBytes (exactly n o)
 unfolding exactly
-exactly-bytes n none f = none-bytes
-exactly-bytes n (some x) f = λ a e. subst Bytes (cond-some (eqb (length x) n) x a e).1 (f x refl)
+exactly-bytes n None f = none-bytes
+exactly-bytes n (Some x) f = λ a e. subst Bytes (cond-some (eqb (length x) n) x a e).1 (f x refl)
 
 either-bytes : (o p : Option (List ℕ)) → OfBytes o → OfBytes p → OfBytes (or_else o p)
 unfolding or_else
-either-bytes none p f g = g
-either-bytes (some x) p f g = f
+either-bytes None p f g = g
+either-bytes (Some x) p f g = f
 
 octet_bytes : (p : List ℕ) → OfBytes (one_byte (decimal 255 p))
 unfolding one_byte
 octet_bytes p = by_value (decimal 255 p) refl
   where
-    by_value : (n : Number) → decimal 255 p ≡ n → OfBytes (one_byte n)
-    by_value Malformed q = none-bytes
-    by_value (Value v) q = λ a e. by_bytes (digits-cons 256 v [] (omega (arith, decimal_le 255 p v q)) (digits-none 256)) e
+    by_value : (n : Option ℕ) → decimal 255 p ≡ n → OfBytes (one_byte n)
+    by_value None q = none-bytes
+    by_value (Some v) q = λ a e. by_bytes (digits-cons 256 v [] (omega (arith, decimal_le 255 p v q)) (digits-none 256)) e
 
 octets-bytes : (ps : List (List ℕ)) → OfBytes (octets ps)
 unfolding octets
@@ -75,9 +73,9 @@ group-bytes : (p : List ℕ) → OfBytes (group p)
 unfolding group two_bytes
 group-bytes p = by_value (h16 p) refl
   where
-    by_value : (n : Number) → h16 p ≡ n → OfBytes (two_bytes n)
-    by_value Malformed q = none-bytes
-    by_value (Value v) q = λ a e.
+    by_value : (n : Option ℕ) → h16 p ≡ n → OfBytes (two_bytes n)
+    by_value None q = none-bytes
+    by_value (Some v) q = λ a e.
         let h : v ≤ 65535 = h16_le p v q in
         by_bytes (digits-cons 256 (v / 256) (v % 256 ∷ []) (omega arith) (digits-cons 256 (v % 256) [] (omega arith) (digits-none 256))) e
 
@@ -99,9 +97,9 @@ side-bytes tail (c ∷ s) = groups-bytes tail (split (code ":") (c ∷ s))
 
 elided-bytes : (o p : Option (List ℕ)) → OfBytes o → OfBytes p → OfBytes (elided o p)
 unfolding elided
-elided-bytes none p f g = none-bytes
-elided-bytes (some x) none f g = none-bytes
-elided-bytes (some x) (some y) f g = λ a e.
+elided-bytes None p f g = none-bytes
+elided-bytes (Some x) None f g = none-bytes
+elided-bytes (Some x) (Some y) f g = λ a e.
     let k : ℕ = 16 - (length x + length y) in
     subst Bytes (cond-some (leb (length x + length y) 14) (x ++ replicate k 0 ++ y) a e).1
     (digits_append 256 (x ++ replicate k 0) y (digits_append 256 x (replicate k 0) (f x refl) (digits-zeros 256 k (omega arith))) (g y refl))

@@ -1,9 +1,9 @@
 -- Reading what was written: the octets and groups that its pieces are, and the sides of "::".
+use Rattle.std.specs.Prelude.{Some}
 use Prim.Native.Nat.{ℕ, suc, ◌+◌, ◌*◌, ◌<◌}
 use mathlib.Core.Path.{◌≡◌, refl, sym, ap, ◌∙◌}
 use mathlib.Core.List.{List, [], ◌∷◌, ◌++◌, map, append_assoc, append-nil}
 use mathlib.Core.Bool.{Bool, true, false, cond}
-use mathlib.Core.Option.{some}
 use native.Mathlib.Omega.{arith}
 use lib.Dec.{eqb}
 use lib.ListN.{length, take, drop, length-append}
@@ -27,7 +27,7 @@ use Rattle.ip_groups.specs.Runs.{bytes_of}
 
 -- ---- IPv4
 
-octets-read : (ns : List ℕ) → Bytes ns → octets (map decimal_text ns) ≡ some ns
+octets-read : (ns : List ℕ) → Bytes ns → octets (map decimal_text ns) ≡ Some ns
 unfolding octets joined prefixed one_byte
 octets-read [] b = refl
 octets-read (n ∷ ns) b =
@@ -38,7 +38,7 @@ dots_cut : (n : ℕ) (ns : List ℕ) → split 46 (dotted (n ∷ ns)) ≡ decima
 unfolding digit_value
 dots_cut n ns = split-spelled 46 10 (omega arith) (omega arith) (omega arith) n ns
 
-pub ipv4-read : (ns : List ℕ) → Bytes ns → length ns ≡ 4 → ipv4 (dotted ns) ≡ some ns
+pub ipv4-read : (ns : List ℕ) → Bytes ns → length ns ≡ 4 → ipv4 (dotted ns) ≡ Some ns
 unfolding ipv4 exactly
 ipv4-read [] b e = absurd (omega arith)
 ipv4-read (n ∷ ns) b e = rw (dots_cut n ns, octets-read (n ∷ ns) b, eq-eqb (length (n ∷ ns)) 4 e)
@@ -49,7 +49,7 @@ no_colon : (g : ℕ) → contains 58 (hex_text g) ≡ false
 unfolding digit_value
 no_colon g = text_lacks 58 16 (omega arith) (omega arith) (omega arith) g
 
-groups-read : (tail : Bool) (g : ℕ) (gs : List ℕ) → Digits 65536 (g ∷ gs) → groups tail (hex_text g ∷ map hex_text gs) ≡ some (bytes_of (g ∷ gs))
+groups-read : (tail : Bool) (g : ℕ) (gs : List ℕ) → Digits 65536 (g ∷ gs) → groups tail (hex_text g ∷ map hex_text gs) ≡ Some (bytes_of (g ∷ gs))
 unfolding groups joined prefixed
 groups-read tail g [] d = last-group (hex_text g) tail g (h16-read g (d 0 (omega arith)))
 groups-read tail g (k ∷ gs) d =
@@ -59,10 +59,10 @@ colons-cut : (g : ℕ) (gs : List ℕ) → split 58 (colons (g ∷ gs)) ≡ hex_
 unfolding digit_value
 colons-cut g gs = split-spelled 58 16 (omega arith) (omega arith) (omega arith) g gs
 
-colons-read : (tail : Bool) (g : ℕ) (gs : List ℕ) → Digits 65536 (g ∷ gs) → groups tail (split 58 (colons (g ∷ gs))) ≡ some (bytes_of (g ∷ gs))
+colons-read : (tail : Bool) (g : ℕ) (gs : List ℕ) → Digits 65536 (g ∷ gs) → groups tail (split 58 (colons (g ∷ gs))) ≡ Some (bytes_of (g ∷ gs))
 colons-read tail g gs d = rw (colons-cut g gs) (groups-read tail g gs d)
 
-pub side-read : (tail : Bool) (gs : List ℕ) → Digits 65536 gs → side tail (colons gs) ≡ some (bytes_of gs)
+pub side-read : (tail : Bool) (gs : List ℕ) → Digits 65536 gs → side tail (colons gs) ≡ Some (bytes_of gs)
 unfolding spelled side
 side-read tail [] d = refl
 side-read tail (g ∷ gs) d =
@@ -108,7 +108,7 @@ elision-colons (g ∷ gs) s =
 -- ---- IPv6
 
 -- groups, "::" and a right side
-pub ipv6-short : (gs s : List ℕ) → Digits 65536 gs → ipv6 (colons gs ++ (58 ∷ 58 ∷ s)) ≡ elided (some (bytes_of gs)) (side true s)
+pub ipv6-short : (gs s : List ℕ) → Digits 65536 gs → ipv6 (colons gs ++ (58 ∷ 58 ∷ s)) ≡ elided (Some (bytes_of gs)) (side true s)
 unfolding ipv6 elision elision_first
 ipv6-short gs s d =
     let t : List ℕ = colons gs ++ (58 ∷ 58 ∷ s) in
@@ -124,7 +124,7 @@ bytes_count [] = refl
 bytes_count (g ∷ gs) = omega (arith, bytes_count gs)
 
 -- eight groups
-pub ipv6-full : (gs : List ℕ) → Digits 65536 gs → length gs ≡ 8 → ipv6 (colons gs) ≡ some (bytes_of gs)
+pub ipv6-full : (gs : List ℕ) → Digits 65536 gs → length gs ≡ 8 → ipv6 (colons gs) ≡ Some (bytes_of gs)
 unfolding ipv6 exactly elision
 ipv6-full [] d e = absurd (omega arith)
 ipv6-full (g ∷ gs) d e =

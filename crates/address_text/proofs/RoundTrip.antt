@@ -1,9 +1,9 @@
 -- Reading the written form gives the address back; so spellings of one address, and no others, have one written form.
+use Rattle.std.specs.Prelude.{None, Some, Ok}
 use Prim.Native.Nat.{ℕ, zero, suc, ◌+◌, ◌-◌, ◌*◌, ◌/◌, ◌%◌, ◌≤◌, ◌<◌}
 use mathlib.Core.Path.{◌≡◌, refl, sym, ap, ◌∙◌}
 use mathlib.Core.List.{List, [], ◌∷◌, ◌++◌, append_assoc}
 use mathlib.Core.Bool.{Bool, true, false, cond, ◌&&◌, ◌||◌}
-use mathlib.Core.Option.{none, some}
 use native.Mathlib.Omega.{arith}
 use native.Mathlib.Decide.{ℕ_discrete}
 use lib.Dec.{eqb, leb, ltb}
@@ -69,25 +69,25 @@ groups-bytes (suc n) (x ∷ y ∷ a) b e =
 
 -- zeros between the sides of "::"
 elided-zeros : (l r : List ℕ) (n : ℕ) → 1 ≤ n → length l + (n + length r) ≡ 8
-    → elided (some (bytes_of l)) (some (bytes_of r)) ≡ some (bytes_of (l ++ (replicate n 0 ++ r)))
+    → elided (Some (bytes_of l)) (Some (bytes_of r)) ≡ Some (bytes_of (l ++ (replicate n 0 ++ r)))
 unfolding elided
 elided-zeros l r n h e =
     let few : length (bytes_of l) + length (bytes_of r) ≤ 14 = omega (arith, bytes_count l, bytes_count r) in
     let k : 16 - (length (bytes_of l) + length (bytes_of r)) ≡ n * 2 = omega (arith, bytes_count l, bytes_count r) in
     rw (le-leb (length (bytes_of l) + length (bytes_of r)) 14 few, k, bytes_append l (replicate n 0 ++ r), bytes_append (replicate n 0) r, bytes-zeros n)
-    (ap some (append_assoc (bytes_of l) (replicate (n * 2) 0) (bytes_of r)))
+    (ap Some (append_assoc (bytes_of l) (replicate (n * 2) 0) (bytes_of r)))
 
-shortened-read : (gs : List ℕ) → Digits 65536 gs → length gs ≡ 8 → ipv6 (shortened gs) ≡ some (bytes_of gs)
+shortened-read : (gs : List ℕ) → Digits 65536 gs → length gs ≡ 8 → ipv6 (shortened gs) ≡ Some (bytes_of gs)
 unfolding shortened ascii
 shortened-read gs d e =
     by-run (leb 2 (longest_run gs)) refl (take (run_at (longest_run gs) gs) gs) (drop (run_at (longest_run gs) gs + longest_run gs) gs) (beside-run gs)
     (around-run (longest_run gs) gs (omega arith)) (digits-take 65536 (run_at (longest_run gs) gs) gs d) (digits-drop 65536 (run_at (longest_run gs) gs + longest_run gs) gs d)
   where
     by-run : (t : Bool) → leb 2 (longest_run gs) ≡ t → (l r : List ℕ) → length l + (longest_run gs + length r) ≡ length gs
-        → gs ≡ l ++ (replicate (longest_run gs) 0 ++ r) → Digits 65536 l → Digits 65536 r → ipv6 (cond t (colons l ++ (58 ∷ 58 ∷ colons r)) (colons gs)) ≡ some (bytes_of gs)
+        → gs ≡ l ++ (replicate (longest_run gs) 0 ++ r) → Digits 65536 l → Digits 65536 r → ipv6 (cond t (colons l ++ (58 ∷ 58 ∷ colons r)) (colons gs)) ≡ Some (bytes_of gs)
     by-run true q l r k s p c =
         let two : 2 ≤ longest_run gs = leb-true 2 (longest_run gs) q in
-        ipv6-short l (colons r) p ∙ rw (side-read true r c) (elided-zeros l r (longest_run gs) (omega arith) (omega arith)) ∙ ap (λ (x : List ℕ). some (bytes_of x)) (sym s)
+        ipv6-short l (colons r) p ∙ rw (side-read true r c) (elided-zeros l r (longest_run gs) (omega arith) (omega arith)) ∙ ap (λ (x : List ℕ). Some (bytes_of x)) (sym s)
     by-run false q l r k s p c = ipv6-full gs d e
 
 -- ---- the dotted tail
@@ -97,11 +97,11 @@ unfolding digit_value
 dotted_lacks ns = spelled_lacks 46 10 (omega arith) (omega arith) 58 (omega arith) (λ e. omega arith) ns
 
 -- no group has more than four digits
-long-group : (s : List ℕ) → 4 < length s → group s ≡ none
+long-group : (s : List ℕ) → 4 < length s → group s ≡ None
 unfolding group two_bytes h16
 long-group s h = rw (lt-leb (length s) 4 h)
 
-group_ffff : group (ascii "ffff") ≡ some (255 ∷ 255 ∷ [])
+group_ffff : group (ascii "ffff") ≡ Some (255 ∷ 255 ∷ [])
 unfolding computing
 group_ffff = refl
 
@@ -113,7 +113,7 @@ dotted-long : (ns : List ℕ) → length ns ≡ 4 → 4 < length (dotted ns)
 dotted-long [] e = absurd (omega arith)
 dotted-long (n ∷ ns) e = omega (arith, spelled_least 46 10 (omega arith) (omega arith) n ns)
 
-tail-read : (ns : List ℕ) → Bytes ns → length ns ≡ 4 → side true (ascii "ffff" ++ (58 ∷ dotted ns)) ≡ some (255 ∷ 255 ∷ ns)
+tail-read : (ns : List ℕ) → Bytes ns → length ns ≡ 4 → side true (ascii "ffff" ++ (58 ∷ dotted ns)) ≡ Some (255 ∷ 255 ∷ ns)
 unfolding side groups joined prefixed last_group or_else ascii
 tail-read ns b e =
     let pieces : split 58 (ascii "ffff" ++ (58 ∷ dotted ns)) ≡ ascii "ffff" ∷ dotted ns ∷ [] =
@@ -128,29 +128,29 @@ mapped-bytes gs h p q =
     let f : bytes_of gs ≡ replicate 10 0 ++ (255 ∷ 255 ∷ bytes_of (drop 6 gs)) = ap bytes_of e in
     f ∙ ap (λ (r : List ℕ). replicate 10 0 ++ (255 ∷ 255 ∷ r)) (sym (ap (drop 12) f))
 
-elided-mapped : (r : List ℕ) → length r ≡ 6 → elided (some []) (some r) ≡ some (replicate 10 0 ++ r)
+elided-mapped : (r : List ℕ) → length r ≡ 6 → elided (Some []) (Some r) ≡ Some (replicate 10 0 ++ r)
 unfolding elided
 elided-mapped r e = let k : 0 + length r ≡ 6 = omega arith in rw k
 
 mapped-read : (a : List ℕ) → Bytes a → length a ≡ 16 → zeros_first (groups_of a) ≡ 5 → get_or (groups_of a) 5 0 ≡ 65535
-    → ipv6 (ascii "::ffff:" ++ dotted (drop 12 a)) ≡ some a
+    → ipv6 (ascii "::ffff:" ++ dotted (drop 12 a)) ≡ Some a
 unfolding ascii spelled
 mapped-read a b e p q =
     let l : length (drop 12 a) ≡ 4 = omega (arith, length-drop 12 a) in
     let s : a ≡ replicate 10 0 ++ (255 ∷ 255 ∷ drop 12 a) =
     rw (groups-bytes 8 a b e) at (mapped-bytes (groups_of a) (omega (arith, groups-count 8 a e)) p q) in
     ipv6-short [] (ascii "ffff" ++ (58 ∷ dotted (drop 12 a))) (digits-none 65536)
-    ∙ rw (tail-read (drop 12 a) (digits-drop 256 12 a b) l, elided-mapped (255 ∷ 255 ∷ drop 12 a) (omega arith)) (ap some (sym s))
+    ∙ rw (tail-read (drop 12 a) (digits-drop 256 12 a b) l, elided-mapped (255 ∷ 255 ∷ drop 12 a) (omega arith)) (ap Some (sym s))
 
-ipv6-read : (a : List ℕ) → Bytes a → length a ≡ 16 → ipv6 (ipv6_text a) ≡ some a
+ipv6-read : (a : List ℕ) → Bytes a → length a ≡ 16 → ipv6 (ipv6_text a) ≡ Some a
 unfolding ipv6_text is_mapped
 ipv6-read a b e = by-prefix (eqb (zeros_first (groups_of a)) 5) (eqb (get_or (groups_of a) 5 0) 65535) refl refl
   where
-    plain : ipv6 (shortened (groups_of a)) ≡ some a
-    plain = shortened-read (groups_of a) (groups-below a b) (groups-count 8 a e) ∙ ap some (groups-bytes 8 a b e)
+    plain : ipv6 (shortened (groups_of a)) ≡ Some a
+    plain = shortened-read (groups_of a) (groups-below a b) (groups-count 8 a e) ∙ ap Some (groups-bytes 8 a b e)
 
     by-prefix : (s t : Bool) → eqb (zeros_first (groups_of a)) 5 ≡ s → eqb (get_or (groups_of a) 5 0) 65535 ≡ t
-        → ipv6 (cond (s && t) (ascii "::ffff:" ++ dotted (drop 12 a)) (shortened (groups_of a))) ≡ some a
+        → ipv6 (cond (s && t) (ascii "::ffff:" ++ dotted (drop 12 a)) (shortened (groups_of a))) ≡ Some a
     by-prefix true true p q = mapped-read a b e (eqb-true _ _ p) (eqb-true _ _ q)
     by-prefix true false p q = plain
     by-prefix false t p q = plain
@@ -178,7 +178,7 @@ ipv6_colon a e = by_form (is_mapped (groups_of a)) (leb 2 (longest_run (groups_o
     by_form false true = contains-known 58 left (58 ∷ right)
     by_form false false = colons_colon (groups_of a) (omega (arith, groups-count 8 a e))
 
-no_percent : (s a : List ℕ) → ipv6 s ≡ some a → contains 37 s ≡ false
+no_percent : (s a : List ℕ) → ipv6 s ≡ Some a → contains 37 s ≡ false
 unfolding digit_value
 no_percent s a e = by-test (contains 37 s) refl
   where
@@ -186,31 +186,31 @@ no_percent s a e = by-test (contains 37 s) refl
     by-test true q = none-some a (sym (ipv6-not 37 (omega arith) (λ z. omega arith) (omega arith) (λ z. omega arith) s q) ∙ e)
     by-test false q = refl
 
-no-ipv4 : (s : List ℕ) → contains 58 s ≡ true → ipv4 s ≡ none
+no-ipv4 : (s : List ℕ) → contains 58 s ≡ true → ipv4 s ≡ None
 unfolding digit_value
 no-ipv4 = ipv4-not 58 (omega arith) (λ z. omega arith)
 
-back4 : (a : List ℕ) → Bytes a → length a ≡ 4 → address_of (text_of a) ≡ some a
+back4 : (a : List ℕ) → Bytes a → length a ≡ 4 → address_of (text_of a) ≡ Some a
 back4 a b e = rw (ipv4-text a e) (address-four (dotted a) a (ipv4-read a b e))
 
-back16 : (a : List ℕ) → Bytes a → length a ≡ 16 → address_of (text_of a) ≡ some a
+back16 : (a : List ℕ) → Bytes a → length a ≡ 16 → address_of (text_of a) ≡ Some a
 unfolding or_else
 back16 a b e =
     rw (ipv6-text a (λ p. omega arith))
     (zones.unzoned (ipv6_text a) (no_percent (ipv6_text a) a (ipv6-read a b e)) ∙ rw (no-ipv4 (ipv6_text a) (ipv6_colon a e)) (ipv6-read a b e))
 
-back : (a : List ℕ) → Bytes a → Wide (length a) → address_of (text_of a) ≡ some a
+back : (a : List ℕ) → Bytes a → Wide (length a) → address_of (text_of a) ≡ Some a
 back a b w = by_width (ℕ_discrete (length a) 4)
   where
-    by_width : Dec (length a ≡ 4) → address_of (text_of a) ≡ some a
+    by_width : Dec (length a ≡ 4) → address_of (text_of a) ≡ Some a
     by_width (yes e) = back4 a b e
     by_width (no n) = back16 a b (w.1 n)
 
 -- what was read, written and read again
-read_back : (s a : List ℕ) → address_of s ≡ some a → address_of (text_of a) ≡ some a
+read_back : (s a : List ℕ) → address_of s ≡ Some a → address_of (text_of a) ≡ Some a
 read_back s a e = by_width (ℕ_discrete (length a) 4)
   where
-    by_width : Dec (length a ≡ 4) → address_of (text_of a) ≡ some a
+    by_width : Dec (length a ≡ 4) → address_of (text_of a) ≡ Some a
     by_width (yes q) = back4 a (address-bytes s a e) q
     by_width (no n) = back16 a (address-bytes s a e) (address-wide s a e n)
 
@@ -223,23 +223,17 @@ is_wide a e = by-test (eqb (length a) 4) refl e
     by-test false q h = let sixteen = eqb-true (length a) 16 h in (omega arith, λ n. sixteen)
 
 -- what the call wrote
-written_back : (a text : List ℕ) → Bytes a → (written_of a (length text)).reason ≡ 0
-    → address_of (take (written_of a (length text)).count (text_after a text)) ≡ some a
+written_back : (a text : List ℕ) (n : ℕ) → Bytes a → written_of a (length text) ≡ Ok n → address_of (take n (text_after a text)) ≡ Some a
 unfolding written_of text_after
-written_back a text b e = by-test (is_address a) refl (ltb (length text) (length (text_of a))) refl
+written_back a text n b e = by-test (is_address a) refl (ltb (length text) (length (text_of a))) refl
   where
-    six : (◌≡◌ {A = ℕ} 6 0) → ⊥
-    six z = omega arith
-
-    nine : (◌≡◌ {A = ℕ} 9 0) → ⊥
-    nine z = omega arith
-
-    by-test : (s : Bool) → is_address a ≡ s → (t : Bool) → ltb (length text) (length (text_of a)) ≡ t
-        → address_of (take (written_of a (length text)).count (text_after a text)) ≡ some a
-    by-test false p t q = absurd (six (rw p at e))
-    by-test true p true q = absurd (nine (rw (p, q) at e))
+    by-test : (s : Bool) → is_address a ≡ s → (t : Bool) → ltb (length text) (length (text_of a)) ≡ t → address_of (take n (text_after a text)) ≡ Some a
+    by-test false p t q = let refused = rw p at e in cc
+    by-test true p true q = let refused = rw (p, q) at e in cc
     by-test true p false q =
-        rw (p, q, take_at (text_of a) (drop (length (text_of a)) text) (length (text_of a)) refl) (back a b (is_wide a p))
+        let all = rw (p, q) at e in
+        let size : length (text_of a) ≡ n = cc in
+        rw (p, q, ← size, take_at (text_of a) (drop (length (text_of a)) text) (length (text_of a)) refl) (back a b (is_wide a p))
 
 pub written_form : WrittenForm
 written_form =

@@ -1,11 +1,10 @@
 -- A table of cases: spellings with the written form of the address that they name, those of RFC 5952 among them; replies by room, and buffers.
-use Rattle.std.specs.Prelude.{ℕ, ◌≡◌, refl, List, [], ◌∷◌, map, replicate}
+use Rattle.std.specs.Prelude.{ℕ, ◌≡◌, refl, List, [], ◌∷◌, map, replicate, Option, None, Some, Ok, Err}
 use Prim.Native.String.{String}
-use Rattle.std.proofs.Math.Option.{Option, none, some}
 use Rattle.octets.specs.Ascii.{ascii}
 use Rattle.ip.specs.Ip.{address_of}
 use Rattle.ip_text.specs.Text.{text_of}
-use Rattle.output.specs.Writing.{counted}
+use Rattle.output.specs.declared.WriteError.TheVariants.{Malformed, NoRoom}
 use Rattle.address_text.specs.Call.{written_of, text_after}
 use Rattle.address_text.specs.Computing.{computing}
 
@@ -17,8 +16,8 @@ abbrev pub case : String → String → Case
 case spelling text = record { spelling = spelling; text = text }
 
 abbrev pub written : Option (List ℕ) → List ℕ
-written (some a) = text_of a
-written none = []
+written (Some a) = text_of a
+written None = []
 
 abbrev pub cases : List Case
 cases =
@@ -39,7 +38,7 @@ cases_hold = refl
 abbrev pub host : List ℕ
 host = 192 ∷ 0 ∷ 2 ∷ 1 ∷ []
 
-pub replies_hold : map (written_of host) (11 ∷ 9 ∷ 8 ∷ 0 ∷ []) ≡ counted 0 9 ∷ counted 0 9 ∷ counted 9 9 ∷ counted 9 9 ∷ []
+pub replies_hold : map (written_of host) (11 ∷ 9 ∷ 8 ∷ 0 ∷ []) ≡ Ok 9 ∷ Ok 9 ∷ Err (NoRoom 9) ∷ Err (NoRoom 9) ∷ []
 unfolding computing
 replies_hold = refl
 
@@ -49,6 +48,6 @@ unfolding computing
 buffers_hold = refl
 
 -- an address has four bytes or sixteen
-pub refusals_hold : map (λ (n : ℕ). written_of (replicate n 1) 99) (0 ∷ 3 ∷ 5 ∷ 15 ∷ 17 ∷ 32 ∷ []) ≡ replicate 6 (counted 6 0)
+pub refusals_hold : map (λ (n : ℕ). written_of (replicate n 1) 99) (0 ∷ 3 ∷ 5 ∷ 15 ∷ 17 ∷ 32 ∷ []) ≡ replicate 6 (Err Malformed)
 unfolding computing
 refusals_hold = refl

@@ -7,7 +7,7 @@ ghost use Rattle.ip_text.specs.Text.{text_of};
 ghost use Rattle.address_text.specs.Call.{written_of, text_after};
 
 use ip_text::put_text;
-use output::Counted;
+use output::WriteError;
 
 // How many bytes the text has: it is written to a buffer that every text fits into.
 fn size_of(address: &[u8]) -> usize
@@ -19,7 +19,7 @@ fn size_of(address: &[u8]) -> usize
 }
 
 // The text of an address of four bytes or sixteen. Its bytes are counted only where there is less room than the family may need.
-fn write(address: &[u8], text: &mut [u8]) -> Counted
+fn write(address: &[u8], text: &mut [u8]) -> Result<u32, WriteError>
     requires { Wide (length address.now) }
     ensures numbers { result ≡ written_of address.now (length text.old) }
     ensures text { text.new ≡ text_after address.now text.old }
@@ -28,33 +28,20 @@ fn write(address: &[u8], text: &mut [u8]) -> Counted
     if text.len() < most {
         let size = size_of(address);
         if text.len() < size {
-            return Counted {
-                reason: 9,
-                count: size as u32,
-            };
+            return Err(WriteError::NoRoom(size as u32));
         }
     }
-    let n = put_text(address, text);
-    Counted {
-        reason: 0,
-        count: n as u32,
-    }
+    Ok(put_text(address, text) as u32)
 }
 
 // Writes the text of an address to the front of the buffer, if it has room for it.
-pub fn address_text(address: &[u8], text: &mut [u8]) -> Counted
+pub fn address_text(address: &[u8], text: &mut [u8]) -> Result<u32, WriteError>
     ensures numbers { result ≡ written_of address.now (length text.old) }
     ensures text { text.new ≡ text_after address.now text.old }
 {
-    let n = address.len();
-    if n == 4 {
-        return write(address, text);
-    }
-    if n == 16 {
-        return write(address, text);
-    }
-    Counted {
-        reason: 6,
-        count: 0,
+    match address.len() {
+        4 => write(address, text),
+        16 => write(address, text),
+        _ => Err(WriteError::Malformed),
     }
 }

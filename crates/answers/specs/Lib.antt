@@ -1,3 +1,4 @@
+pub mod Reasons
 pub mod Reply
 pub mod Answered
 pub mod Reporting

@@ -1,112 +1,77 @@
-// The changes of a file applied one after another to the index of the records.
+// The changes of a file applied one after another to the records.
 #![tactic(auto)]
 
-ghost use Rattle.std.specs.Prelude.{◌≡◌, true, ◌+◌, ◌-◌, ◌≤◌, ◌<◌, length, get_or, take};
+ghost use Rattle.std.specs.Prelude.{◌≡◌, true, ◌+◌, ◌-◌, ◌≤◌, ◌<◌, length, get_or};
 ghost use Rattle.std.proofs.Math.Seq.{slice};
 ghost use Rattle.registry.specs.Limits.{most_records};
-ghost use Rattle.changes.specs.Limits.{most_changes, most_entries};
-ghost use Rattle.merged.specs.Held.{entries_at, Recorded, Merged};
+ghost use Rattle.changes.specs.Limits.{most_entries};
+ghost use Rattle.merged.specs.Held.{Recorded};
 ghost use Rattle.by_key.specs.Key.{Key};
 ghost use Rattle.one_change.specs.Read.{adding, removing};
-ghost use Rattle.applying.specs.Steps.{Step, AppliedTo};
+ghost use Rattle.applying.specs.Steps.{Step, AppliedAt, AppliedTo};
 
 use by_key::{is_there, key_of, rank};
-use changes::PerEntry;
-use merged::{insert_at, remove_at};
+use merged::Records;
 use one_change::{Change, change_at};
 use registry::{MOST_IMAGE, PerRecord};
 
-// The record at a position of the change file added; false if its key is there already.
-fn add<'a>(
-    image: &'a [u8],
-    changes: &'a [u8],
-    index: &mut PerEntry,
-    n: usize,
-    start: usize,
-    end: usize,
-) -> bool
-    requires { Merged image.now changes.now index.old n × (n < most_entries) × (start ≤ end) × (end ≤ length changes.now)
-        × (length changes.now ≤ most_changes) × Recorded (slice start end changes.now) }
-    ensures { Step (adding changes.now start end) image.now changes.now
-        index.old index.new n (n + 1) result }
+// The record in a part of the change file added; false if its key is there already. It has no value to hand out, so a bool says it.
+fn add(records: &mut Records, start: usize, end: usize) -> bool
+    requires { (records.old.count < most_entries) × (start ≤ end) × (end ≤ length records.old.changes.now)
+        × Recorded (slice start end records.old.changes.now) }
+    ensures { Step (adding records.old.changes.now start end) records.old records.new (records.old.count + 1) result }
 {
-    let r = &changes[start..end];
+    let r = &records.changes[start..end];
     let tag = r[0];
     let key = key_of(r);
-    let at = rank(image, changes, index, n, tag, key);
-    if is_there(image, changes, index, n, at, tag, key) {
+    let at = rank(records, tag, key);
+    if is_there(records, at, tag, key) {
         return false;
     }
-    insert_at(index, n, at, (MOST_IMAGE + start) as u32);
+    records.insert(at, (MOST_IMAGE + start) as u32);
     true
 }
 
 // The record of a key removed; false if it isn't there.
-fn remove<'a>(
-    image: &'a [u8],
-    changes: &'a [u8],
-    index: &mut PerEntry,
-    n: usize,
-    start: usize,
-    end: usize,
-) -> bool
-    requires { Merged image.now changes.now index.old n × (start < end) × (end ≤ length changes.now)
-        × Key (get_or changes.now start 0) (slice (start + 1) end changes.now) }
-    ensures step { Step (removing changes.now start end) image.now changes.now
-        index.old index.new n (n - 1) result }
-    ensures some { result ≡ true → 0 < n }
+fn remove(records: &mut Records, start: usize, end: usize) -> bool
+    requires { (start < end) × (end ≤ length records.old.changes.now)
+        × Key (get_or records.old.changes.now start 0) (slice (start + 1) end records.old.changes.now) }
+    ensures { Step (removing records.old.changes.now start end) records.old records.new (records.old.count - 1) result }
 {
-    let tag = changes[start];
-    let from = start + 1;
-    let key = &changes[from..end];
-    let at = rank(image, changes, index, n, tag, key);
-    if !is_there(image, changes, index, n, at, tag, key) {
+    let tag = records.changes[start];
+    let key = &records.changes[start + 1..end];
+    let at = rank(records, tag, key);
+    if !is_there(records, at, tag, key) {
         return false;
     }
-    remove_at(index, n, at);
+    records.remove(at);
     true
 }
 
-// How many records there are after the changes, or the offset of the first change that cannot be applied.
-#[derive(Clone, Copy)]
-pub enum Applied {
-    Done(usize),
-    RefusedAt(usize),
+// The change at a position applied: where it ends; nothing if it cannot be applied.
+fn apply_at(records: &mut Records, at: usize, starts: &mut PerRecord) -> Option<usize>
+    requires { (at < length records.old.changes.now) × (records.old.count < most_entries) × (length starts.old ≡ most_records) }
+    ensures applied { AppliedAt at records.old records.new result }
+    ensures full { length starts.new ≡ most_records }
+{
+    match change_at(records.changes, at, starts)? {
+        Change::Add { start, end } => add(records, start, end).then_some(end),
+        Change::Remove { start, end } => remove(records, start, end).then_some(end),
+    }
 }
 
-pub fn apply<'a>(
-    image: &'a [u8],
-    changes: &'a [u8],
-    index: &mut PerEntry,
-    count: usize,
-    starts: &mut PerRecord,
-) -> Applied
-    requires { Merged image.now changes.now index.old count × (count ≤ most_records) × (length changes.now ≤ most_changes)
-        × (length starts.old ≡ most_records) }
-    ensures applied { AppliedTo image.now changes.now
-        (entries_at image.now changes.now (take count index.old)) index.new result }
-    ensures full { length index.new ≡ most_entries }
+// The changes of the file applied; or the offset of the first that cannot be applied.
+pub fn apply(records: &mut Records, starts: &mut PerRecord) -> Result<(), usize>
+    requires { (records.old.count ≤ most_records) × (length starts.old ≡ most_records) }
+    ensures { AppliedTo records.old records.new result }
 {
-    let mut n = count;
-    let mut at: usize = 0;
-    while at < changes.len() {
-        match change_at(changes, at, starts) {
-            Change::Add { start, end } => {
-                if !add(image, changes, index, n, start, end) {
-                    return Applied::RefusedAt(at);
-                }
-                n += 1;
-                at = end;
-            }
-            Change::Remove { start, end } => {
-                if !remove(image, changes, index, n, start, end) {
-                    return Applied::RefusedAt(at);
-                }
-                n -= 1;
-                at = end;
-            }
-            Change::Malformed => return Applied::RefusedAt(at),
-        }
+    let mut at = 0;
+    // From change to change, each where the one before it ends.
+    while at < records.changes.len() {
+        let Some(end) = apply_at(records, at, starts) else {
+            return Err(at);
+        };
+        at = end;
     }
-    Applied::Done(n)
+    Ok(())
 }

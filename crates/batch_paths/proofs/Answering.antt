@@ -1,19 +1,16 @@
 -- What is written to the list of a batch, one answer after another into the rest of it.
 use Prim.Native.Nat.{ℕ, ◌+◌, ◌-◌, ◌≤◌, ◌<◌}
-use Prim.Native.Char.{code}
 use mathlib.Core.Path.{◌≡◌, ap, subst}
 use mathlib.Core.List.{List, [], ◌∷◌}
 use native.Mathlib.Omega.{arith}
 use borrow.Rule.Slice.PartMut.{put_mid}
 use lib.ListN.{length, take, drop}
-use Rattle.path.specs.Positions.{pieces_from, part, PieceAt}
-use Rattle.path.proofs.Among.{from_start, from_end}
 use Rattle.image.specs.Image.{Image}
 use Rattle.output.specs.Writing.{Written, Reached}
 use Rattle.output.proofs.Writing.{written_over, written-length, rest-length, at-start, next-part, at-end}
 use Rattle.answers.specs.Reply.{Reply, line}
 use Rattle.calls.specs.Calls.{answer_in}
-use Rattle.batches.specs.Batch.{paths_of, lines, answers_in}
+use Rattle.batches.specs.Batch.{lines, answers_in}
 use Rattle.batches.proofs.Theorem.{stop, no-paths, onward, line-fits, few-answers}
 use Rattle.batch_line.specs.Line.{LineWritten}
 use Rattle.batch_paths.specs.Answering.{Answering}
@@ -28,54 +25,49 @@ line_in_rest path image list ys at n l =
 
 -- All answers: what is written, and what follows for the paths that are left, are the whole
 
-pub record SoFar (image : Image) (text before list : List ℕ) (answered start at : ℕ) : Type 0 where
-  pub reached : Reached (lines (answers_in image (paths_of text) (length before))) (lines (answers_in image (pieces_from (code "\n") text start) (length before - at))) before list at
+pub record SoFar (image : Image) (paths left : List (List ℕ)) (before list : List ℕ) (answered at : ℕ) : Type 0 where
+  pub reached : Reached (lines (answers_in image paths (length before))) (lines (answers_in image left (length before - at))) before list at
   pub room : at ≤ length before
-  pub counted : answered + length (answers_in image (pieces_from (code "\n") text start) (length before - at)) ≡ length (answers_in image (paths_of text) (length before))
+  pub counted : answered + length (answers_in image left (length before - at)) ≡ length (answers_in image paths (length before))
 
-pub nothing_yet : (image : Image) (text list : List ℕ) → SoFar image text list list 0 0 0
-unfolding paths_of
-nothing_yet image text list =
+pub nothing_yet : (image : Image) (paths : List (List ℕ)) (list : List ℕ) → SoFar image paths paths list list 0 0
+nothing_yet image paths list =
     let z : length list - 0 ≡ length list = omega arith in
-    record { reached = rw (z, from_start (code "\n") text) (at-start _ list); room = omega arith; counted = rw (z, from_start (code "\n") text) (omega arith) }
+    record { reached = rw z (at-start _ list); room = omega arith; counted = rw z (omega arith) }
 
-module _ {image : Image} {text before list : List ℕ} {answered start at : ℕ} (s : SoFar image text before list answered start at) where
+module _ {image : Image} {paths left : List (List ℕ)} {before list : List ℕ} {answered at : ℕ} (s : SoFar image paths left before list answered at) where
   pub kept-length : length list ≡ length before
   kept-length = written-length s.reached.written s.room
 
   -- no more answers
-  ended : answers_in image (pieces_from (code "\n") text start) (length before - at) ≡ [] → Answering (paths_of text) image before list answered
+  ended : answers_in image left (length before - at) ≡ [] → Answering paths image before list answered
   unfolding lines
   ended e =
       let n = rw e at s.counted in
       record { count = omega arith; list = written_over (at-end (rw e at s.reached)) }
 
-  pub all-answered : length text < start → Answering (paths_of text) image before list answered
-  all-answered h = ended (rw (from_end (code "\n") text start h) (no-paths image (length before - at)))
+  pub all-answered : left ≡ [] → Answering paths image before list answered
+  all-answered h = ended (rw h (no-paths image (length before - at)))
 
-  pub none-fits : length list - at < 4 → Answering (paths_of text) image before list answered
-  none-fits h = ended (stop image (pieces_from (code "\n") text start) (length before - at) (omega (arith, kept-length)))
+  pub none-fits : length list - at < 4 → Answering paths image before list answered
+  none-fits h = ended (stop image left (length before - at) (omega (arith, kept-length)))
 
-  module _ {end : ℕ} (piece : PieceAt (code "\n") text start end) (h : 4 ≤ length list - at) where
+  module _ {path : List ℕ} {later : List (List ℕ)} (e : left ≡ path ∷ later) (h : 4 ≤ length list - at) where
     abbrev next : Reply
-    next = answer_in (part text start end) image (length list - at - 4)
+    next = answer_in path image (length list - at - 4)
 
-    still :
-        answers_in image (pieces_from (code "\n") text start) (length before - at)
-        ≡ next ∷ answers_in image (pieces_from (code "\n") text (end + 1)) (length before - at - length (line next))
-    still =
-        rw (piece.is, kept-length)
-        (onward image (part text start end) (pieces_from (code "\n") text (end + 1)) (length before - at) (omega (arith, kept-length)))
+    still : answers_in image left (length before - at) ≡ next ∷ answers_in image later (length before - at - length (line next))
+    still = rw (e, kept-length) (onward image path later (length before - at) (omega (arith, kept-length)))
 
-    pub path-left : answered < length (paths_of text)
-    path-left = omega (arith, ap length still, s.counted, few-answers image (paths_of text) (length before))
+    pub path-left : answered < length paths
+    path-left = omega (arith, ap length still, s.counted, few-answers image paths (length before))
 
     pub next_fits : length (line next) ≤ length list - at
-    next_fits = line-fits image (part text start end) (length list - at) h
+    next_fits = line-fits image path (length list - at) h
 
     pub one_more :
         {ys : List ℕ} {n : ℕ} → Written (line next) (take (length list - at) (drop at list)) ys n
-        → SoFar image text before (put_mid at (length list - at) list ys) (answered + 1) (end + 1) (at + n)
+        → SoFar image paths later before (put_mid at (length list - at) list ys) (answered + 1) (at + n)
     unfolding lines
     one_more {ys} {n} l =
         let e : length before - (at + n) ≡ length before - at - length (line next) = omega (arith, l.size) in

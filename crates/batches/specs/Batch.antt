@@ -1,5 +1,5 @@
 -- Many paths in one call (S2.5): paths separated by a line feed, each answered as the first call answers it.
-use Rattle.std.specs.Prelude.{ℕ, ◌-◌, List, [], ◌∷◌, ◌++◌, cond, ltb, length}
+use Rattle.std.specs.Prelude.{ℕ, ◌-◌, None, List, [], ◌∷◌, ◌++◌, cond, ltb, length}
 use Prim.Native.Char.{code}
 use Rattle.octets.specs.Split.{split}
 use Rattle.registry.specs.Limits.{most_paths}
@@ -27,7 +27,7 @@ answers_in image (path ∷ paths) room =
 
 -- The call's own reason is 0, with the number of paths answered as count; its own kind is always 0.
 unfoldable pub of_answers : List Reply → Reply
-of_answers replies = of_reason 0 Kind.None (length replies) (lines replies)
+of_answers replies = of_reason 0 None (length replies) (lines replies)
 
 -- A bad image gives the call reason 2, more than 64 paths reason 10, checked after it; both write nothing.
 unfoldable pub batch_in : List (List ℕ) → Image → ℕ → Reply

@@ -1,17 +1,16 @@
 -- The walk over the children of block i: what the pass for a gap gives for the rest, from the first address that is free, is its answer.
 use Prim.Native.Nat.{ℕ, suc, ◌+◌, ◌≤◌, ◌<◌, max, min}
-use mathlib.Core.Bool.{Bool, true, false, cond, not}
+use mathlib.Core.Bool.{Bool, true, false, cond}
 use mathlib.Core.Path.{◌≡◌, sym, ap, ◌∙◌}
 use mathlib.Core.List.{List}
 use native.Mathlib.Omega.{arith}
 use native.Mathlib.Numerals.{add-one}
-use borrow.Author.Tests.{le-leb, leb-false}
+use borrow.Author.Tests.{le-leb, lt-leb, lt-ltb, le-ltb}
 use lib.Dec.{leb, ltb}
 use lib.ListN.{drop, get_or}
 use Rattle.registry.specs.Tags.{width_of}
 use Rattle.address.specs.Ranges.{Range}
 use Rattle.octets.specs.Positions.{number_in}
-use Rattle.address.proofs.Covering.{not-leb}
 use Rattle.forest.specs.Scans.{gap_pass, gap_in}
 use Rattle.forest.proofs.Laminar.{Laminar, accepted-laminar}
 use Rattle.scans.specs.Standing.{blocks_in}
@@ -48,8 +47,8 @@ module _ {s : List ℕ} {family : ℕ} {firsts links : List ℕ} {n i : ℕ} (r 
     unfolding gap_in
     whole q f g = rw (f, g, first-at i r.known, last-at i r.known)
 
-  pub walk_none : (free limit : ℕ) {u : Bool} → u ≡ leb free limit → u ≡ false → false ≡ leaves_from s family i free limit
-  walk_none free limit o k = sym (none_free (range_at s family i) limit (blocks_in s family) free (leb-false free limit (sym o ∙ k)))
+  pub walk_none : (free limit : ℕ) → limit < free → false ≡ leaves_from s family i free limit
+  walk_none free limit h = sym (none_free (range_at s family i) limit (blocks_in s family) free h)
 
   pub walk_start : (free limit : ℕ) → free ≤ limit → Walking s family i (leaves_from s family i free limit) (i + 1) (get_or links i 0) free limit
   walk_start free limit k =
@@ -82,35 +81,39 @@ module _ {s : List ℕ} {family : ℕ} {firsts links : List ℕ} {n i : ℕ} (r 
           ≡ a
       turn = sym (child laminar i m w.link free limit j w.ahead b) ∙ w.left
 
-      -- u is whether the child begins at what is free or before, v whether it reaches the limit
-      module _ {width : ℕ} (e : width ≡ width_of family) {first : ℕ} (f : first ≡ number_in s (get_or firsts j 0) width) {u : Bool} (x : u ≡ leb first free) where
-        begins : (t : Bool) → u ≡ t → ltb free (range_at s family j).first ≡ not t
-        begins t h = rw (← h, ← first-at e j child-known, ← f) (sym (not-leb first free x))
+      module _ {width : ℕ} (e : width ≡ width_of family) {first : ℕ} (f : first ≡ number_in s (get_or firsts j 0) width) where
+        first-is : first ≡ (range_at s family j).first
+        first-is = f ∙ first-at e j child-known
 
-        pub walk-gap : u ≡ false → true ≡ a
-        walk-gap h = enough-free ∙ (rw (begins false h) at turn)
+        -- it begins after what is free
+        pub walk-gap : free < first → true ≡ a
+        walk-gap h = enough-free ∙ (rw (lt-ltb free (range_at s family j).first (rw (← first-is) h)) at turn)
 
-        module _ (h : u ≡ true) {last : ℕ} (g : last ≡ number_in s (get_or firsts j 0 + width) width) {v : Bool} (y : v ≡ leb limit last) where
-          reaches : v ≡ leb limit (range_at s family j).last
-          reaches = rw (← last-at e j child-known, ← g) y
+        -- it begins at what is free or before
+        module _ (h : first ≤ free) {last : ℕ} (g : last ≡ number_in s (get_or firsts j 0 + width) width) where
+          begins : ltb free (range_at s family j).first ≡ false
+          begins = le-ltb free (range_at s family j).first (rw (← first-is) h)
 
-          pub walk-over : v ≡ true → false ≡ a
-          walk-over k = rw (begins true h, sym reaches ∙ k) at turn
+          last-is : last ≡ (range_at s family j).last
+          last-is = g ∙ last-at e j child-known
 
-          pub walk-next : v ≡ false → {free' : ℕ} → free' ≡ max free (suc last) → Walking s family i a (get_or links j 0) m free' limit
+          -- and reaches the limit
+          pub walk-over : limit ≤ last → false ≡ a
+          walk-over k = rw (begins, le-leb limit (range_at s family j).last (rw (← last-is) k)) at turn
+
+          pub walk-next : last < limit → {free' : ℕ} → free' ≡ max free (suc last) → Walking s family i a (get_or links j 0) m free' limit
           walk-next k c =
               let l = link_at j child-known in
               let x = l.ahead in
               let d = w.ahead in
               let o = w.enough in
-              let z : last ≡ (range_at s family j).last = g ∙ last-at e j child-known in
-              let below : (range_at s family j).last < limit = leb-false limit (range_at s family j).last (sym reaches ∙ k) in
+              let below : (range_at s family j).last < limit = rw (← last-is) k in
               record {
                 link = w.link;
                 ahead = omega arith;
                 upto = inner-link laminar i m w.link 0 0 j w.ahead b (get_or links j 0) l;
                 enough = omega arith;
-                left = rw (c, z)
+                left = rw (c, last-is)
                     (sym (hop laminar (max free (suc (range_at s family j).last)) limit (range_at s family i) j (get_or links j 0) l (omega arith) below)
-                    ∙ (rw (begins true h, sym reaches ∙ k) at turn));
+                    ∙ (rw (begins, lt-leb limit (range_at s family j).last below) at turn));
               }

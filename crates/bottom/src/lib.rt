@@ -1,10 +1,9 @@
 // Bottom over a sound image: each block of the family is tested by a walk over its own children, which stops at the first address left over.
 #![tactic(auto)]
 
-ghost use Rattle.std.specs.Prelude.{◌≡◌, suc, ◌≤◌, ◌<◌, max, min, length};
+ghost use Rattle.std.specs.Prelude.{◌≡◌, ◌≤◌, ◌<◌, length};
 ghost use Rattle.registry.specs.Limits.{most_records};
 ghost use Rattle.address.specs.Address.{numbers};
-ghost use Rattle.octets.specs.Words.{number_of};
 ghost use Rattle.forest.specs.Relations.{bottom as bottom_of};
 ghost use Rattle.forest.specs.Scans.{gap_in};
 ghost use Rattle.scans.specs.Standing.{blocks_in, Searchable};
@@ -12,44 +11,14 @@ ghost use Rattle.output.specs.Listing.{Collected};
 ghost use Rattle.links.specs.Links.{Gathered, Numbered};
 ghost use Rattle.bottom.specs.Testing.{Testable, range_at, leaves_from, holders_of};
 
-use address::{AddressRange, words_of};
+use address::AddressRange;
 use image::Run;
 use links::{gather, links_of};
-use octets::Words;
 use registry::{MOST_RECORDS, PerRecord, width_of};
 use scans::any_inside;
-use words::{words_at, words_at_most};
+use words::number_at;
 
-fn lesser(x: Words, y: Words) -> Words
-    ensures { number_of result ≡ min (number_of x) (number_of y) }
-{
-    if words_at_most(x, y) { x } else { y }
-}
-
-fn greater(x: Words, y: Words) -> Words
-    ensures { number_of result ≡ max (number_of x) (number_of y) }
-{
-    if words_at_most(x, y) { y } else { x }
-}
-
-// The address after one that is not the last of all.
-fn next(x: Words) -> Words
-    requires { x.low ≡ 18446744073709551615 → x.high < 18446744073709551615 }
-    ensures { number_of result ≡ suc (number_of x) }
-{
-    if x.low < 18446744073709551615 {
-        return Words {
-            high: x.high,
-            low: x.low + 1,
-        };
-    }
-    Words {
-        high: x.high + 1,
-        low: 0,
-    }
-}
-
-// Whether the children of block i leave an address from free to limit.
+// Whether the children of block i leave an address from free to limit: from child to child, by the links.
 fn children_leave(
     image: &[u8],
     family: u8,
@@ -57,25 +26,25 @@ fn children_leave(
     links: &PerRecord,
     n: usize,
     i: usize,
-    mut free: Words,
-    limit: Words,
+    mut free: u128,
+    limit: u128,
 ) -> bool
-    requires { Testable image.now family firsts.now links.now n i × (number_of free ≤ number_of limit) }
-    ensures { result ≡ leaves_from image.now family i (number_of free) (number_of limit) }
+    requires { Testable image.now family firsts.now links.now n i × (free ≤ limit) }
+    ensures { result ≡ leaves_from image.now family i free limit }
 {
     let width = width_of(family);
     let end = links[i] as usize;
     let mut j = i + 1;
     while j < end {
         let child = firsts[j] as usize;
-        if !words_at_most(words_at(image, child, width), free) {
+        if free < number_at(image, child, width) {
             return true;
         }
-        let last = words_at(image, child + width, width);
-        if words_at_most(limit, last) {
+        let last = number_at(image, child + width, width);
+        if limit <= last {
             return false;
         }
-        free = greater(free, next(last));
+        free = free.max(last + 1);
         j = links[j] as usize;
     }
     true
@@ -96,9 +65,12 @@ fn leaves_gap(
 {
     let width = width_of(family);
     let start = firsts[i] as usize;
-    let limit = lesser(words_of(range.last), words_at(image, start + width, width));
-    let free = greater(words_of(range.first), words_at(image, start, width));
-    if !words_at_most(free, limit) {
+    let limit = range
+        .last
+        .number()
+        .min(number_at(image, start + width, width));
+    let free = range.first.number().max(number_at(image, start, width));
+    if limit < free {
         return false;
     }
     children_leave(image, family, firsts, links, n, i, free, limit)
@@ -120,13 +92,11 @@ fn holders(
 {
     let links = links_of(image, family, firsts, n);
     let mut m: usize = 0;
-    let mut i: usize = 0;
-    while i < n {
+    for i in 0..n {
         if leaves_gap(image, family, firsts, &links, n, i, range) {
             hits[m] = from + i as u32;
             m += 1;
         }
-        i += 1;
     }
     m
 }

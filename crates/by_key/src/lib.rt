@@ -1,16 +1,17 @@
 // Where a key stands among the records of an image and those that a change file adds.
 #![tactic(auto)]
 
-ghost use Rattle.std.specs.Prelude.{◌≡◌, take};
+ghost use Rattle.std.specs.Prelude.{◌≡◌};
 ghost use Rattle.records.specs.Record.{follows};
 ghost use Rattle.changes.specs.Change.{keyed, is_there};
 ghost use Rattle.changes.specs.Rank.{rank_of};
-ghost use Rattle.merged.specs.Held.{parsed_from, entries_at, Recorded, Merged};
+ghost use Rattle.merged.specs.Held.{parsed_from, Recorded};
+ghost use Rattle.merged.specs.Listed.{listed};
 ghost use Rattle.by_key.specs.Key.{bare_key, Key};
 
-use changes::PerEntry;
+use fields::Field;
 use halves::middle;
-use merged::record_at;
+use merged::Records;
 use nesting::range_after;
 use records::{bytes_of, handle_span, name_span};
 use registry::{AS_BLOCK, ENTITY, HEAD, RANGE_OFFSET, width_of};
@@ -26,10 +27,15 @@ pub fn key_of(r: &[u8]) -> &[u8]
         let end = RANGE_OFFSET + 2 * width_of(tag);
         return &r[RANGE_OFFSET..end];
     }
+    let record = Field {
+        tag,
+        start: HEAD,
+        end: r.len(),
+    };
     if tag == ENTITY {
-        return bytes_of(r, handle_span(r, tag, HEAD, r.len()));
+        return bytes_of(r, handle_span(r, record));
     }
-    bytes_of(r, name_span(r, tag, HEAD, r.len()))
+    bytes_of(r, name_span(r, record))
 }
 
 // Whether the key b comes strictly after a in the order of the image.
@@ -62,23 +68,16 @@ fn comes_after(r: &[u8], tag: u8, key: &[u8]) -> bool
     key_after(tag, key, r[0], key_of(r))
 }
 
-// How many of the first n records of the index come before a key. By halves, since they are sorted.
-pub fn rank<'a>(
-    image: &'a [u8],
-    changes: &'a [u8],
-    index: &PerEntry,
-    n: usize,
-    tag: u8,
-    key: &[u8],
-) -> usize
-    requires { Merged image.now changes.now index.now n × Key tag key.now }
-    ensures { result ≡ rank_of (keyed tag key.now) (entries_at image.now changes.now (take n index.now)) }
+// How many of the records come before a key. By halves, since they are sorted; the law of halves is shared with the names.
+pub fn rank(records: &Records, tag: u8, key: &[u8]) -> usize
+    requires { Key tag key.now }
+    ensures { result ≡ rank_of (keyed tag key.now) (listed records.now) }
 {
     let mut low: u32 = 0;
-    let mut high = n as u32;
+    let mut high = records.count as u32;
     while low < high {
         let i = middle(low, high);
-        if comes_before(record_at(image, changes, index[i as usize]), tag, key) {
+        if comes_before(records.record(i as usize), tag, key) {
             low = i + 1;
         } else {
             high = i;
@@ -88,21 +87,12 @@ pub fn rank<'a>(
 }
 
 // Whether the record at the rank of a key has this key.
-pub fn is_there<'a>(
-    image: &'a [u8],
-    changes: &'a [u8],
-    index: &PerEntry,
-    n: usize,
-    at: usize,
-    tag: u8,
-    key: &[u8],
-) -> bool
-    requires { Merged image.now changes.now index.now n × Key tag key.now
-        × (at ≡ rank_of (keyed tag key.now) (entries_at image.now changes.now (take n index.now))) }
-    ensures { result ≡ is_there (keyed tag key.now) (entries_at image.now changes.now (take n index.now)) }
+pub fn is_there(records: &Records, at: usize, tag: u8, key: &[u8]) -> bool
+    requires { Key tag key.now × (at ≡ rank_of (keyed tag key.now) (listed records.now)) }
+    ensures { result ≡ is_there (keyed tag key.now) (listed records.now) }
 {
-    if n <= at {
+    if records.count <= at {
         return false;
     }
-    !comes_after(record_at(image, changes, index[at]), tag, key)
+    !comes_after(records.record(at), tag, key)
 }

@@ -12,10 +12,10 @@ ghost use Rattle.by_name.specs.Seeking.{SortedBy, SoughtIn};
 
 use halves::middle;
 use image::Run;
-use octets::Ordering;
-use output::{Found, Listed, report_found};
+use output::{NoRoom, report_found};
 use registry::{Part, PerRecord, Text};
 use search::{text_at, which_of};
+use std::cmp::Ordering;
 
 // How the handle or the name of the record at a position sorts beside the text that is wanted. It counts itself.
 fn compare_at(image: &[u8], at: usize, which: Part, wanted: &[u8], steps: &mut u32) -> Ordering
@@ -30,7 +30,7 @@ fn compare_at(image: &[u8], at: usize, which: Part, wanted: &[u8], steps: &mut u
 // What a search by halves found, and how many comparisons it took.
 #[derive(Clone, Copy)]
 struct Sought {
-    found: Found,
+    found: Option<u32>,
     steps: u32,
 }
 
@@ -50,17 +50,14 @@ fn seek(image: &[u8], starts: &PerRecord, run: Run, text: Text, wanted: &[u8]) -
             Ordering::Less => low = i + 1,
             Ordering::Equal => {
                 return Sought {
-                    found: Found::At(i),
+                    found: Some(i),
                     steps,
                 };
             }
             Ordering::Greater => high = i,
         }
     }
-    Sought {
-        found: Found::Nothing,
-        steps,
-    }
+    Sought { found: None, steps }
 }
 
 // The record of the run whose handle or name is the text, reported to the list.
@@ -71,7 +68,7 @@ pub fn called(
     text: Text,
     wanted: &[u8],
     list: &mut [u32],
-) -> Listed
+) -> Result<u32, NoRoom>
     requires { Selected image.now starts.now run × SortedBy run.low run.high text }
     ensures { Reported (called_in image.now run text wanted.now) list.old list.new result }
 {

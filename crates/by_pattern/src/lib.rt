@@ -11,7 +11,7 @@ ghost use Rattle.output.specs.Listing.{Reported, Collected};
 ghost use Rattle.search.specs.Picks.{text_at, picked_in, matching_in};
 
 use image::Run;
-use output::{Listed, report};
+use output::{NoRoom, report};
 use pattern::Form;
 use registry::{MOST_RECORDS, Part, PerRecord, Text};
 use search::{text_at, which_of};
@@ -39,14 +39,12 @@ fn collect(
     ensures { Collected hits.new (picked_in image.now run which fold form pattern.now) result }
 {
     let mut n: usize = 0;
-    let mut i = run.from;
-    while i < run.until {
+    for i in run.from..run.until {
         let at = starts[i as usize] as usize;
         if picked(image, at, which, fold, form, pattern) {
             hits[n] = i;
             n += 1;
         }
-        i += 1;
     }
     n
 }
@@ -62,7 +60,7 @@ fn list_picked(
     form: Form,
     pattern: &[u8],
     list: &mut [u32],
-) -> Listed
+) -> Result<u32, NoRoom>
     requires { Selected image.now starts.now run }
     ensures { Reported (picked_in image.now run which fold form pattern.now) list.old list.new result }
 {
@@ -80,7 +78,7 @@ pub fn matching(
     form: Form,
     pattern: &[u8],
     list: &mut [u32],
-) -> Listed
+) -> Result<u32, NoRoom>
     requires { Selected image.now starts.now run }
     ensures { Reported (matching_in image.now run text form pattern.now) list.old list.new result }
 {

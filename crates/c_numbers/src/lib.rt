@@ -4,27 +4,43 @@
 ghost use Rattle.std.specs.Prelude.{◌≡◌, [], ◌≤◌};
 ghost use Rattle.registry.specs.Limits.{most_image};
 ghost use Rattle.changes.specs.Fold.{Folding};
-ghost use Rattle.final_image.specs.Call.{folded_of};
+ghost use Rattle.final_image.specs.Call.{folded_of, folded_in};
 ghost use Rattle.answers.specs.Answered.{reply_of};
 ghost use Rattle.c_numbers.specs.Numbers.{numbers_of, part_numbers, counted_numbers, folding_numbers};
 
 use answers::Answer;
-use final_image::Folded;
-use output::Counted;
+use final_image::FoldError;
+use output::WriteError;
 use records::Span;
+
+// The reasons of a call that writes to a lent buffer (S3.2).
+const REASON_NONE: u32 = 0;
+
+const REASON_IMAGE: u32 = 2;
+
+const REASON_MALFORMED: u32 = 6;
+
+const REASON_NO_ROOM: u32 = 9;
+
+const REASON_CHANGE: u32 = 11;
+
+const REASON_FINAL_IMAGE: u32 = 12;
 
 // The numbers of an answer.
 pub fn numbers(a: Answer) -> [u32; 7]
     ensures { result ≡ numbers_of (reply_of a []) }
 {
-    let k = a.kind;
-    let kind = kinds::kind_number(k);
-    let relation = kinds::relation_number(k);
-    let status = a.status;
-    let reason = a.reason;
-    let count = a.count;
-    let defect = a.defect;
-    let place = a.place;
+    let Answer {
+        reason,
+        kind,
+        count,
+        defect,
+        place,
+    } = a;
+    let status = reason.status();
+    let reason = reason.number();
+    let relation = kinds::relation_number(kind);
+    let kind = kinds::kind_number(kind);
     [status, reason, kind, relation, count, defect, place]
 }
 
@@ -40,22 +56,25 @@ pub fn span_numbers(span: Span) -> [u32; 2]
 }
 
 // The two numbers of a call that writes to a buffer.
-pub fn counted_numbers(a: Counted) -> [u32; 2]
-    ensures { result ≡ counted_numbers a }
+pub fn counted_numbers(written: Result<u32, WriteError>) -> [u32; 2]
+    ensures { result ≡ counted_numbers written }
 {
-    let reason = a.reason;
-    let count = a.count;
-    [reason, count]
+    match written {
+        Ok(count) => [REASON_NONE, count],
+        Err(WriteError::Malformed) => [REASON_MALFORMED, 0],
+        Err(WriteError::NoRoom(needed)) => [REASON_NO_ROOM, needed],
+    }
 }
 
 // The five numbers of a fold.
-pub fn folding_numbers(a: Folded) -> [u32; 5]
-    ensures { (f : Folding) → a ≡ folded_of f → result ≡ folding_numbers f }
+pub fn folding_numbers(folded: Result<u32, FoldError>) -> [u32; 5]
+    ensures { (f : Folding) → folded_in folded ≡ folded_of f → result ≡ folding_numbers f }
 {
-    let reason = a.reason;
-    let count = a.count;
-    let defect = a.defect;
-    let place = a.place;
-    let offset = a.offset;
-    [reason, count, defect, place, offset]
+    match folded {
+        Ok(count) => [REASON_NONE, count, 0, 0, 0],
+        Err(FoldError::Image(flaw)) => [REASON_IMAGE, 0, flaw.defect.number(), flaw.place, 0],
+        Err(FoldError::NoRoom(needed)) => [REASON_NO_ROOM, needed, 0, 0, 0],
+        Err(FoldError::Change(offset)) => [REASON_CHANGE, 0, 0, 0, offset],
+        Err(FoldError::Final(flaw)) => [REASON_FINAL_IMAGE, 0, flaw.defect.number(), flaw.place, 0],
+    }
 }

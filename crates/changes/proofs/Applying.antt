@@ -1,8 +1,8 @@
 -- What holds of the records before a change and is kept by each holds after all; every entry stands.
+use Rattle.std.specs.Prelude.{Option, None, Some}
 use mathlib.Core.Path.{◌≡◌, refl}
 use mathlib.Core.Bool.{Bool, true, false, not, cond, ◌&&◌}
 use mathlib.Core.List.{List, [], ◌∷◌}
-use mathlib.Core.Option.{Option, none, some}
 use Prim.Native.Nat.{ℕ, zero, suc, ◌+◌}
 use native.Mathlib.Omega.{arith}
 use lib.Dec.{eqb}
@@ -18,7 +18,7 @@ use Rattle.changes.specs.Change.{Change, add, remove, malformed, add_judged, add
 use Rattle.changes.proofs.Files.{not_done, later-done}
 
 -- by the changes one after another
-module _ (P : List Entry → Type 0) (step : (tag : ℕ) (contents : List ℕ) (es next : List Entry) → P es → applied (change_of tag contents) es ≡ some next → P next) where
+module _ (P : List Entry → Type 0) (step : (tag : ℕ) (contents : List ℕ) (es next : List Entry) → P es → applied (change_of tag contents) es ≡ Some next → P next) where
   pub kept-by-all : (n : ℕ) (es fs : List Entry) (s : List ℕ) → changes_from n es s ≡ done fs → P es → P fs
   unfolding changes_from
   kept-by-all zero es fs [] e p = let f : es ≡ fs = cc in rw (← f) p
@@ -31,8 +31,8 @@ module _ (P : List Entry → Type 0) (step : (tag : ℕ) (contents : List ℕ) (
 
       by-applied : (tag : ℕ) (contents rest : List ℕ) (o : Option (List Entry)) → applied (change_of tag contents) es ≡ o
           → after_applied o (3 + length contents) (λ next. changes_from n next rest) ≡ done fs → Onward → P fs
-      by-applied tag contents rest none x y onward = absurd (not_done _ fs y)
-      by-applied tag contents rest (some next) x y onward = onward next rest (later-done _ (changes_from n next rest) fs y) (step tag contents es next p x)
+      by-applied tag contents rest None x y onward = absurd (not_done _ fs y)
+      by-applied tag contents rest (Some next) x y onward = onward next rest (later-done _ (changes_from n next rest) fs y) (step tag contents es next p x)
 
       by-head : (h : Head) → after_head es h (λ next rest. changes_from n next rest) ≡ done fs → Onward → P fs
       by-head short y onward = absurd (not_done _ fs y)
@@ -72,28 +72,28 @@ change-good tag contents e k = by-tag (eqb tag 0x30) (eqb tag 0x31) k
     by-tag false true z = absurd (removal-adds-nothing contents e z)
     by-tag false false z = absurd (no_change z)
 
-none-some : {es : List Entry} → none ≡ some es → ⊥
+none-some : {es : List Entry} → None ≡ Some es → ⊥
 none-some k = let z : ◌≡◌ {A = ℕ} 0 1 = cc in omega arith
 
-pub application : (tag : ℕ) (contents : List ℕ) (es next : List Entry) → applied (change_of tag contents) es ≡ some next → Application es next
+pub application : (tag : ℕ) (contents : List ℕ) (es next : List Entry) → applied (change_of tag contents) es ≡ Some next → Application es next
 application tag contents es next k = by-change (change_of tag contents) refl k
   where
-    by-change : (c : Change) → change_of tag contents ≡ c → applied c es ≡ some next → Application es next
+    by-change : (c : Change) → change_of tag contents ≡ c → applied c es ≡ Some next → Application es next
     by-change malformed x y = absurd (none-some y)
     by-change (add e) x y = by_key (is_there e.parsed es) refl y
       where
-        by_key : (t : Bool) → is_there e.parsed es ≡ t → cond t none (some (insert e es)) ≡ some next → Application es next
+        by_key : (t : Bool) → is_there e.parsed es ≡ t → cond t None (Some (insert e es)) ≡ Some next → Application es next
         by_key true u v = absurd (none-some v)
         by_key false u v = let f : next ≡ insert e es = cc in adding e (change-good tag contents e x) u f
     by-change (remove r) x y = by_key (is_there r es) y
       where
-        by_key : (t : Bool) → cond t (some (without r es)) none ≡ some next → Application es next
+        by_key : (t : Bool) → cond t (Some (without r es)) None ≡ Some next → Application es next
         by_key false v = absurd (none-some v)
         by_key true v = let f : next ≡ without r es = cc in removing r f
 
 -- Every entry stands
 
-good-insert : (e : Entry) → GoodEntry e → (es : List Entry) → AllGood es → AllGood (insert e es)
+pub good-insert : (e : Entry) → GoodEntry e → (es : List Entry) → AllGood es → AllGood (insert e es)
 unfolding insert
 good-insert e k [] s = good-cons k good_nil
 good-insert e k (x ∷ es) (good-cons y s) = by_order (follows x.parsed e.parsed) (good-insert e k es s)
@@ -102,7 +102,7 @@ good-insert e k (x ∷ es) (good-cons y s) = by_order (follows x.parsed e.parsed
     by_order true z = good-cons y z
     by_order false z = good-cons k (good-cons y s)
 
-good-filter : (p : Entry → Bool) (es : List Entry) → AllGood es → AllGood (filter p es)
+pub good-filter : (p : Entry → Bool) (es : List Entry) → AllGood es → AllGood (filter p es)
 good-filter p [] s = good_nil
 good-filter p (x ∷ es) (good-cons y s) = by-test (p x) (good-filter p es s)
   where
@@ -110,7 +110,7 @@ good-filter p (x ∷ es) (good-cons y s) = by-test (p x) (good-filter p es s)
     by-test true z = good-cons y z
     by-test false z = z
 
-pub good-step : (tag : ℕ) (contents : List ℕ) (es next : List Entry) → AllGood es → applied (change_of tag contents) es ≡ some next → AllGood next
+pub good-step : (tag : ℕ) (contents : List ℕ) (es next : List Entry) → AllGood es → applied (change_of tag contents) es ≡ Some next → AllGood next
 good-step tag contents es next s k = by-application (application tag contents es next k)
   where
     by-application : Application es next → AllGood next

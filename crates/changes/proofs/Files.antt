@@ -1,7 +1,7 @@
 -- The changes of two files one after another are those of their joining.
+use Rattle.std.specs.Prelude.{Option, None, Some}
 use mathlib.Core.Path.{◌≡◌, refl, sym, ◌∙◌, ap}
 use mathlib.Core.List.{List, [], ◌∷◌, ◌++◌}
-use mathlib.Core.Option.{Option, none, some}
 use Prim.Native.Nat.{ℕ, zero, suc, ◌+◌, ◌≤◌, ◌<◌}
 use native.Mathlib.Omega.{arith}
 use lib.ListN.{length, length-append}
@@ -45,8 +45,8 @@ bound (suc n) (suc m) es (b ∷ bs) p q = by-head (head_of (b ∷ bs)) refl (λ 
 
     by-applied : (size : ℕ) (rest : List ℕ) → length rest ≤ n → length rest ≤ m → Onward → (o : Option (List Entry))
         → after_applied o size (λ next. changes_from n next rest) ≡ after_applied o size (λ next. changes_from m next rest)
-    by-applied size rest u v onward none = refl
-    by-applied size rest u v onward (some next) = ap (later size) (onward next rest u v)
+    by-applied size rest u v onward None = refl
+    by-applied size rest u v onward (Some next) = ap (later size) (onward next rest u v)
 
     by-head : (h : Head) → head_of (b ∷ bs) ≡ h → Onward → after_head es h (λ next rest. changes_from n next rest) ≡ after_head es h (λ next rest. changes_from m next rest)
     by-head short x onward = refl
@@ -77,8 +77,8 @@ change-step (suc n) es (b ∷ bs) tag contents rest e h = rw e (by-applied (appl
   where
     by-applied : (o : Option (List Entry))
         → after_applied o (3 + length contents) (λ next. changes_from n next rest) ≡ after_applied o (3 + length contents) (λ next. changes_from (suc n) next rest)
-    by-applied none = refl
-    by-applied (some next) =
+    by-applied None = refl
+    by-applied (Some next) =
         let k = left_over (b ∷ bs) tag contents rest e in
         ap (later (3 + length contents)) (bound n (suc n) next rest (omega arith) (omega arith))
 
@@ -100,8 +100,8 @@ joined-from (suc n) (suc k) m es fs (b ∷ bs) t e p q =
     by-applied : (size : ℕ) (rest : List ℕ) → length (rest ++ t) ≤ k → size + length rest ≡ suc (length bs) → Onward → (o : Option (List Entry))
         → after_applied o size (λ next. changes_from n next rest) ≡ done fs
         → after_applied o size (λ next. changes_from k next (rest ++ t)) ≡ later (suc (length bs)) (changes_from m fs t)
-    by-applied size rest u v onward none x = absurd (not_done _ fs x)
-    by-applied size rest u v onward (some next) x =
+    by-applied size rest u v onward None x = absurd (not_done _ fs x)
+    by-applied size rest u v onward (Some next) x =
         ap (later size) (onward next rest (later-done size (changes_from n next rest) fs x) u)
         ∙ later-later size (length rest) (changes_from m fs t)
         ∙ ap (λ (i : ℕ). later i (changes_from m fs t)) v

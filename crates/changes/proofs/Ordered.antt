@@ -1,8 +1,8 @@
 -- The records stay sorted under every change, so that a final image is only ever too long, has too many records, or an overlap.
+use Rattle.std.specs.Prelude.{Some}
 use mathlib.Core.Path.{◌≡◌, refl, sym}
 use mathlib.Core.Bool.{Bool, true, false, not, cond, ◌&&◌, ◌||◌, false≢true}
 use mathlib.Core.List.{List, [], ◌∷◌, ◌++◌}
-use mathlib.Core.Option.{some}
 use Prim.Native.Nat.{ℕ, ◌≤◌, ◌<◌}
 use borrow.Author.Tests.{ltb-false, eqb-true, eqb-false}
 use native.Mathlib.Omega.{arith}
@@ -61,7 +61,7 @@ after-insert p e (x ∷ es) k (after-cons l a) = by_order (follows x.parsed e.pa
     by_order true z = after-cons l z
     by_order false z = after-cons k (after-cons l a)
 
-ordered-insert : (e : Entry) (es : List Entry) → is_there e.parsed es ≡ false → Ordered (parsed_of es) → Ordered (parsed_of (insert e es))
+pub ordered-insert : (e : Entry) (es : List Entry) → is_there e.parsed es ≡ false → Ordered (parsed_of es) → Ordered (parsed_of (insert e es))
 unfolding insert
 ordered-insert e [] h s = ordered-cons after_nil ordered_nil
 ordered-insert e (x ∷ es) h (ordered-cons a s) =
@@ -84,7 +84,7 @@ module _ (p : Entry → Bool) where
       by-test true z = after-cons l z
       by-test false z = z
 
-  ordered-filter : (es : List Entry) → Ordered (parsed_of es) → Ordered (parsed_of (filter p es))
+  pub ordered-filter : (es : List Entry) → Ordered (parsed_of es) → Ordered (parsed_of (filter p es))
   ordered-filter [] s = ordered_nil
   ordered-filter (x ∷ es) (ordered-cons a s) = by-test (p x) (ordered-filter es s)
     where
@@ -97,7 +97,7 @@ module _ (p : Entry → Bool) where
 abbrev pub OrderedEntries : List Entry → Type 0
 OrderedEntries es = Ordered (parsed_of es)
 
-pub ordered_step : (tag : ℕ) (contents : List ℕ) (es next : List Entry) → OrderedEntries es → applied (change_of tag contents) es ≡ some next → OrderedEntries next
+pub ordered_step : (tag : ℕ) (contents : List ℕ) (es next : List Entry) → OrderedEntries es → applied (change_of tag contents) es ≡ Some next → OrderedEntries next
 ordered_step tag contents es next s k = by-application (application tag contents es next k)
   where
     by-application : Application es next → OrderedEntries next

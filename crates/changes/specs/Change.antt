@@ -1,6 +1,5 @@
 -- A change file (S4.8): a row of fields, each a change, applied in order to the records of an image (S2.8).
-use Rattle.std.specs.Prelude.{◌≡◌, ◌↔◌, Bool, true, false, not, cond, ◌&&◌, List, [], ◌∷◌, ℕ, zero, suc, ◌+◌, ◌*◌, eqb, length}
-use Rattle.std.proofs.Math.Option.{Option, none, some}
+use Rattle.std.specs.Prelude.{◌≡◌, ◌↔◌, Bool, true, false, not, cond, ◌&&◌, List, [], ◌∷◌, ℕ, zero, suc, ◌+◌, ◌*◌, eqb, length, Option, None, Some}
 use Rattle.registry.specs.Tags.{is_block, is_known, width_of, entity}
 use Rattle.octets.specs.Lists.{filter, any}
 use Rattle.address.specs.Ranges.{range_from, well_formed}
@@ -75,9 +74,9 @@ without r es = filter (λ (e : Entry). not (same_key e.parsed r)) es
 
 -- none if it is malformed, removes what isn't there or adds a key already there
 abbrev pub applied : Change → List Entry → Option (List Entry)
-applied malformed es = none
-applied (add e) es = cond (is_there e.parsed es) none (some (insert e es))
-applied (remove r) es = cond (is_there r es) (some (without r es)) none
+applied malformed es = None
+applied (add e) es = cond (is_there e.parsed es) None (Some (insert e es))
+applied (remove r) es = cond (is_there r es) (Some (without r es)) None
 
 -- The changes of a file, one after another
 
@@ -92,8 +91,8 @@ later n (done es) = done es
 later n (refused_at offset) = refused_at (n + offset)
 
 abbrev pub after_applied : Option (List Entry) → ℕ → (List Entry → Changed) → Changed
-after_applied none size onward = refused_at 0
-after_applied (some es) size onward = later size (onward es)
+after_applied None size onward = refused_at 0
+after_applied (Some es) size onward = later size (onward es)
 
 abbrev pub after_head : List Entry → Head → (List Entry → List ℕ → Changed) → Changed
 after_head es short onward = refused_at 0

@@ -1,24 +1,20 @@
 -- Laws of the place of "::", for a loop that has come to place i: it stands here, further on, or nowhere; it ends within the text, and a byte that is no colon stands beside it.
 use Prim.Native.Nat.{ℕ, suc, ◌+◌, ◌≤◌, ◌<◌}
 use Prim.Native.Char.{code}
-use mathlib.Core.Path.{◌≡◌, refl}
+use mathlib.Core.Path.{◌≡◌, refl, ◌∙◌}
 use mathlib.Core.List.{List, [], ◌∷◌}
 use mathlib.Core.Bool.{Bool, true, false, cond, ◌&&◌, ◌||◌, false≢true}
 use native.Mathlib.Omega.{arith}
 use native.Mathlib.Numerals.{add-one}
 use lib.Dec.{eqb}
-use lib.ListN.{length, get_or, take, drop, drop_of_length-le}
+use Rattle.std.specs.List.{starts_with}
+use Rattle.std.proofs.lemmas.Bool.Decides.{nat_tests}
+use lib.ListN.{length, take, drop}
 use lib.Seq.{drop-cons}
 use borrow.Author.Tests.{eqb-true, ne_eqb}
 use Rattle.octets.specs.Lists.{contains}
-use Rattle.octets.proofs.Connectives.{and_left, and_right}
+use Rattle.octets.proofs.Connectives.{and_left, and_right, and-false}
 use Rattle.elision.specs.Elision.{elision_first, elision}
-
-pub elision-short : (s : List ℕ) → length s < 2 → elision_first s ≡ false
-unfolding elision_first
-elision-short [] h = refl
-elision-short (c ∷ []) h = refl
-elision-short (c ∷ d ∷ s) h = let z : ⊥ = omega arith in absurd z
 
 elision-long : (s : List ℕ) → elision_first s ≡ true → 2 ≤ length s
 unfolding elision_first
@@ -26,19 +22,22 @@ elision-long [] e = absurd (false≢true e)
 elision-long (c ∷ []) e = absurd (false≢true e)
 elision-long (c ∷ d ∷ s) e = omega arith
 
-module _ (s : List ℕ) (i : ℕ) where
-  pub elision-two : i + 1 < length s → elision_first (drop i s) ≡ (eqb (get_or s i 0) (code ":") && eqb (get_or s (i + 1) 0) (code ":"))
-  unfolding elision_first
-  elision-two h =
-      let h₀ : i < length s = omega arith in
-      let h₁ : suc i < length s = omega arith in
-      rw (add-one, drop-cons s i 0 h₀, drop-cons s (suc i) 0 h₁)
+same-tests : (c d : ℕ) → (eqb 58 c && (eqb 58 d && true)) ≡ (eqb c 58 && eqb d 58)
+same-tests c d = grind (arith, nat_tests)
 
-  pub elision-here : i < length s → elision_first (drop i s) ≡ true → elision s ≡ i + elision (drop i s) → i ≡ elision s
+-- a text that starts with "::"
+pub starts-first : (s : List ℕ) (r : Bool) → r ≡ starts_with (λ a b. eqb a b) s (code ":" ∷ code ":" ∷ []) → r ≡ elision_first s
+unfolding elision_first
+starts-first [] r e = e
+starts-first (c ∷ []) r e = e ∙ and-false (eqb (code ":") c)
+starts-first (c ∷ d ∷ s) r e = e ∙ same-tests c d
+
+module _ (s : List ℕ) (i : ℕ) where
+  pub elision-here : i < length s → elision_first (drop i s) ≡ true → elision s ≡ i + elision (drop i s) → (elision s < length s) × (i ≡ elision s)
   unfolding elision
   elision-here h e q =
       let z : elision (drop i s) ≡ 0 = rw (drop-cons s i 0 h, rw (drop-cons s i 0 h) at e) in
-      omega arith
+      (omega arith, omega arith)
 
   pub elision_on : i < length s → elision_first (drop i s) ≡ false → elision s ≡ i + elision (drop i s) → elision s ≡ i + 1 + elision (drop (i + 1) s)
   unfolding elision
@@ -46,9 +45,8 @@ module _ (s : List ℕ) (i : ℕ) where
       let z : elision (drop i s) ≡ suc (elision (drop (i + 1) s)) = rw (add-one, drop-cons s i 0 h, rw (drop-cons s i 0 h) at e) in
       omega arith
 
-  pub elision-end : length s ≤ i → elision s ≡ i + elision (drop i s) → i ≡ elision s
-  unfolding elision
-  elision-end h q = let z : elision (drop i s) ≡ 0 = rw (drop_of_length-le s h) in omega arith
+  pub elision-end : length s ≤ i → elision s ≡ i + elision (drop i s) → elision s < length s → ⊥
+  elision-end h q l = omega arith
 
 room-step : (b : Bool) (n k : ℕ) → (b ≡ true → 2 ≤ suc n) → (k < n → k + 2 ≤ n) → cond b 0 (suc k) < suc n → cond b 0 (suc k) + 2 ≤ suc n
 room-step true n k f g h = omega (arith, f refl)

@@ -7,11 +7,11 @@ use native.Mathlib.Omega.{arith}
 use native.Mathlib.Nat.{le_refl}
 use lib.ListN.{length, take, drop, get_or, length-reverse}
 use lib.Seq.{slice, take-length, take-take, take_at, drop-cons, get_or-take, get_or_at}
+use Rattle.std.specs.Prelude.{Option, Some, None}
 use Rattle.fields.specs.Field.{Head, field, short, head_of}
-use Rattle.fields.specs.Positions.{field_at, head_at, FieldInside, behind, passed}
+use Rattle.fields.specs.Positions.{field_at, field_of, head_at, FieldInside, behind, passed}
 use Rattle.fields.specs.Heads.{head-slice, field-inside}
 use Rattle.fields.specs.declared.Field.{Field}
-use Rattle.fields.specs.declared.Field.TheVariants.{Whole, Short}
 use Rattle.records.specs.Record.{Record}
 use Rattle.records.specs.Judge.{Judged, bad, good, judge, judge_alone}
 use Rattle.records.proofs.Accepted.{Accepted, alone-good, overlap_good}
@@ -103,7 +103,7 @@ pub record Stood (s : List ℕ) (i at : ℕ) : Type 0 where
   pub end : ℕ
   pub r : Record
   pub earlier : List Record
-  pub field-here : field_at s at (length s) ≡ Whole tag start end
+  pub field-here : field_at s at (length s) ≡ Some (field_of tag start end)
   pub listed : drop i (records_of (image_of s)) ≡ r ∷ drop (i + 1) (records_of (image_of s))
   pub accepted : Accepted earlier tag (slice start end s) r
   pub inside : FieldInside at (length s) start end
@@ -147,7 +147,7 @@ module _ (s : List ℕ) (n : ℕ) (h : n < length (records_of (image_of s))) whe
     head-here : head_at s (length s) (field_at s at (length s)) ≡ field to_come.tag to_come.contents to_come.rest
     head-here = head-slice s at (length s) w.inside (le_refl _) ∙ to_come.head
 
-    pass-short : field_at s at (length s) ≡ Short → ⊥
+    pass-short : field_at s at (length s) ≡ None → ⊥
     pass-short e =
         let x : short ≡ field to_come.tag to_come.contents to_come.rest = rw e at head-here in
         let z : ◌≡◌ {A = ℕ} 0 1 = cc in omega arith
@@ -160,17 +160,17 @@ module _ (s : List ℕ) (n : ℕ) (h : n < length (records_of (image_of s))) whe
         ∙ numbered (4096 - i) w.earlier (slice at (length s) s) (records_of (image_of s)) fewer sound-left
         ∙ ap (λ (m : ℕ). to_come.r ∷ drop m (records_of (image_of s))) c
 
-    module _ (t a b : ℕ) (e : field_at s at (length s) ≡ Whole t a b) where
-      same_head : field t (slice a b s) (slice b (length s) s) ≡ field to_come.tag to_come.contents to_come.rest
+    module _ (f : Field) (e : field_at s at (length s) ≡ Some f) where
+      same_head : field f.tag (slice f.start f.end s) (slice f.end (length s) s) ≡ field to_come.tag to_come.contents to_come.rest
       same_head = rw e at head-here
 
-      pass-inside : FieldInside at (length s) a b
-      pass-inside = field-inside s at (length s) t a b e
+      pass-inside : FieldInside at (length s) f.start f.end
+      pass-inside = field-inside s at (length s) f e
 
-      pass-next : Passed s (i + 1) b
+      pass-next : Passed s (i + 1) f.end
       pass-next =
           let y = same_head in
-          let x : slice b (length s) s ≡ to_come.rest = cc in
+          let x : slice f.end (length s) s ≡ to_come.rest = cc in
           let z : 4096 - (i + 1) ≡ 4096 - i - 1 = omega arith in
           record {
             earlier = to_come.r ∷ w.earlier;
@@ -180,19 +180,19 @@ module _ (s : List ℕ) (n : ℕ) (h : n < length (records_of (image_of s))) whe
           }
 
       -- the record here was accepted
-      accepted-here : Accepted w.earlier t (slice a b s) to_come.r
+      accepted-here : Accepted w.earlier f.tag (slice f.start f.end s) to_come.r
       accepted-here =
           let y = same_head in
-          let u : t ≡ to_come.tag = cc in
-          let v : slice a b s ≡ to_come.contents = cc in
+          let u : f.tag ≡ to_come.tag = cc in
+          let v : slice f.start f.end s ≡ to_come.contents = cc in
           rw (u, v) (alone-good w.earlier to_come.tag to_come.contents to_come.r
           (overlap_good w.earlier (judge_alone w.earlier to_come.tag to_come.contents) to_come.r to_come.judged).0)
 
       stood : Stood s i at
       stood = record {
-        tag = t;
-        start = a;
-        end = b;
+        tag = f.tag;
+        start = f.start;
+        end = f.end;
         r = to_come.r;
         earlier = w.earlier;
         field-here = e;
@@ -201,9 +201,9 @@ module _ (s : List ℕ) (n : ℕ) (h : n < length (records_of (image_of s))) whe
         inside = pass-inside;
       }
 
-    by_field : (f : Field) → field_at s at (length s) ≡ f → Stood s i at
-    by_field Short e = absurd (pass-short e)
-    by_field (Whole t a b) e = stood t a b e
+    by_field : (f : Option Field) → field_at s at (length s) ≡ f → Stood s i at
+    by_field None e = absurd (pass-short e)
+    by_field (Some f) e = stood f e
 
   passes : (k i at : ℕ) → i + k ≡ n → Passed s i at → Passed s n (passed s k at (length s))
   unfolding passed
@@ -212,9 +212,9 @@ module _ (s : List ℕ) (n : ℕ) (h : n < length (records_of (image_of s))) whe
       rw d at w
   passes (suc k) i at e w = by_field (field_at s at (length s)) refl (λ b. passes k (i + 1) b (omega arith))
     where
-      by_field : (f : Field) → field_at s at (length s) ≡ f → ((b : ℕ) → Passed s (i + 1) b → Passed s n (passed s k b (length s))) → Passed s n (passed s k (behind f at) (length s))
-      by_field Short g next = absurd (pass-short i at w (omega arith) g)
-      by_field (Whole t a b) g next = next b (pass-next i at w (omega arith) t a b g)
+      by_field : (f : Option Field) → field_at s at (length s) ≡ f → ((b : ℕ) → Passed s (i + 1) b → Passed s n (passed s k b (length s))) → Passed s n (passed s k (behind f at) (length s))
+      by_field None g next = absurd (pass-short i at w (omega arith) g)
+      by_field (Some f) g next = next f.end (pass-next i at w (omega arith) f g)
 
   pub stands_here : Stood s n (start_of s n)
   unfolding start_of

@@ -8,39 +8,39 @@ use native.Mathlib.Decide.{dec_lt}
 use borrow.Author.Tests.{lt-ltb, le-ltb}
 use lib.ListN.{length, drop_of_length-le}
 use lib.Seq.{slice_empty}
+use Rattle.std.specs.Prelude.{Option, Some, None}
 use Rattle.fields.specs.Positions.{field_at}
 use Rattle.fields.specs.Heads.{field-inside}
 use Rattle.fields.specs.declared.Field.{Field}
-use Rattle.fields.specs.declared.Field.TheVariants.{Whole, Short}
 use Rattle.records.specs.declared.Span.{Span}
 use Rattle.image.specs.Image.{Image, sound, defective, image_of}
 use Rattle.image.specs.Part.{records_of, contents_of_first}
-use Rattle.image.specs.Checking.{verdict_of}
+use Rattle.image.specs.Checking.{verdict_of, numbers_in}
 use Rattle.image.specs.Entries.{start_of, contents_in, contents_span, span_of, PartSpan, SpanIsPart}
 use Rattle.image.specs.Index.{Standing}
 use Rattle.registry.specs.declared.Part.{Part}
-use Rattle.image.specs.declared.Verdict.{Verdict}
-use Rattle.image.specs.declared.Verdict.TheVariants.{Sound, Defective}
-use Rattle.image.proofs.Soundness.{counted}
+use Rattle.registry.specs.declared.Flaw.{Flaw}
+use Rattle.std.specs.Prelude.{Result, Ok, Err}
+use Rattle.image.proofs.Soundness.{counted, verdict_defective}
 use Rattle.entries.proofs.Standing.{standing_of, contents_in_image}
 
 -- the field at a position, as a reader finds it
-module _ (s : List ℕ) (at : ℕ) (f : Field) (e : f ≡ field_at s at (length s)) where
-  pub no-contents : f ≡ Short → (which : Part) → record { start = 0; end = 0 } ≡ contents_span which s at
+module _ (s : List ℕ) (at : ℕ) (f : Option Field) (e : f ≡ field_at s at (length s)) where
+  pub no-contents : f ≡ None → (which : Part) → record { start = 0; end = 0 } ≡ contents_span which s at
   unfolding contents_span
   no-contents k which = rw (← e, k)
 
-  module _ (tag start end : ℕ) (k : f ≡ Whole tag start end) where
-    pub end-inside : end ≤ length s
-    end-inside = (field-inside s at (length s) tag start end (sym e ∙ k)).within
+  module _ (q : Field) (k : f ≡ Some q) where
+    pub end-inside : q.end ≤ length s
+    end-inside = (field-inside s at (length s) q (sym e ∙ k)).within
 
-    pub contents-read : (which w : Part) → which ≡ w → {x : Span} → x ≡ contents_in w s (Whole tag start end) → x ≡ contents_span which s at
+    pub contents-read : (which w : Part) → which ≡ w → {x : Span} → x ≡ contents_in w s (Some q) → x ≡ contents_span which s at
     unfolding contents_span
     contents-read which w h z = rw (h, ← e, k) z
 
-pub defective-none : (i : Image) (v : Verdict) (d p : ℕ) → v ≡ verdict_of i → v ≡ Defective d p → length (records_of i) ≡ 0
-defective-none (sound records) v d p e f = let z : ◌≡◌ {A = ℕ} 0 1 = cc in absurd (omega arith)
-defective-none (defective a b) v d p e f = refl
+pub defective-none : (i : Image) (v : Result ℕ Flaw) (flaw : Flaw) → numbers_in v ≡ verdict_of i → v ≡ Err flaw → length (records_of i) ≡ 0
+defective-none (sound records) v flaw e f = let k = verdict_defective e f in let z : ◌≡◌ {A = ℕ} 0 1 = cc in absurd (omega arith)
+defective-none (defective a b) v flaw e f = refl
 
 module _ (s : List ℕ) (n : ℕ) (which : Part) where
   pub span_none : length (records_of (image_of s)) ≤ n → PartSpan s n which (record { start = 0; end = 0 })
@@ -51,7 +51,7 @@ module _ (s : List ℕ) (n : ℕ) (which : Part) where
     inside = record { forward = omega arith; within = omega arith };
   }
 
-  module _ {count : ℕ} (e : verdict_of (image_of s) ≡ Sound count) where
+  module _ {count : ℕ} (e : verdict_of (image_of s) ≡ Ok count) where
     pub span_beyond : count ≤ n → PartSpan s n which (record { start = 0; end = 0 })
     span_beyond h = span_none (omega (arith, counted (image_of s) count e))
 

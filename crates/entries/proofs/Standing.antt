@@ -7,11 +7,12 @@ use native.Mathlib.Omega.{arith}
 use native.Mathlib.Nat.{le_trans}
 use lib.ListN.{length, take, drop, get_or}
 use lib.Seq.{slice, length-slice}
+use Rattle.std.specs.Prelude.{Some}
 use Rattle.registry.specs.Tags.{is_block, width_of}
 use Rattle.address.specs.Address.{numbers, range_at, number_at}
 use Rattle.address.specs.Ranges.{range_from}
+use Rattle.fields.specs.Positions.{field_of}
 use Rattle.fields.specs.Heads.{field-tag, field-inside}
-use Rattle.fields.specs.declared.Field.TheVariants.{Whole}
 use Rattle.fields.specs.Slices.{take-slice, drop-slice, part_slice}
 use Rattle.records.specs.Record.{Record}
 use Rattle.records.specs.Positions.{bytes_of, Inside}
@@ -24,7 +25,7 @@ use Rattle.image.specs.Entries.{start_of, contents_in, contents_span}
 use Rattle.image.specs.Index.{tag_of, Standing, Indexed}
 use Rattle.registry.specs.declared.Part.{Part}
 use Rattle.registry.specs.declared.Part.TheVariants.{Range, Handle, Name}
-use Rattle.image.specs.declared.Verdict.TheVariants.{Sound}
+use Rattle.std.specs.Prelude.{Ok}
 use Rattle.image.proofs.Soundness.{counted}
 use Rattle.entries.proofs.Numbered.{stands_here}
 
@@ -39,12 +40,12 @@ range-read s at w =
 
 -- the parts of a record that lies in a field
 module _ {s : List ℕ} {tag start end : ℕ} {r : Record} (l : Laid s tag start end r) where
-  contents-laid : (which : Part) → bytes_of s (contents_in which s (Whole tag start end)) ≡ contents_of which r
+  contents-laid : (which : Part) → bytes_of s (contents_in which s (Some (field_of tag start end))) ≡ contents_of which r
   contents-laid Range = l.range_span_lem
   contents-laid Handle = l.handle
   contents-laid Name = l.name
 
-  inside-laid : (which : Part) → Inside end (contents_in which s (Whole tag start end))
+  inside-laid : (which : Part) → Inside end (contents_in which s (Some (field_of tag start end)))
   inside-laid Range = l.range_span_inside
   inside-laid Handle = l.handle-inside
   inside-laid Name = l.name-inside
@@ -54,7 +55,7 @@ unfolding tag_of contents_span
 standing s i h =
     let x = stands_here s i h in
     let l = laid s x.tag x.start x.end x.r x.inside.forward x.inside.within x.accepted.parsed in
-    let u : x.tag ≡ get_or s (start_of s i) 0 = field-tag s (start_of s i) (length s) x.tag x.start x.end x.field-here in
+    let u : x.tag ≡ get_or s (start_of s i) 0 = field-tag s (start_of s i) (length s) _ x.field-here in
     let v : x.start ≡ start_of s i + 3 = sym x.inside.after in
     let w : start_of s i + 3 + 3 ≡ start_of s i + 6 = omega arith in
     let block : x.tag ≤ 18 → is_block x.tag ≡ true = a_block x.tag x.accepted.low in
@@ -76,7 +77,7 @@ standing s i h =
     }
 
 -- the same by the verdict
-pub standing_of : (s : List ℕ) (count : ℕ) → verdict_of (image_of s) ≡ Sound count → (i : ℕ) → i < count → Standing s i
+pub standing_of : (s : List ℕ) (count : ℕ) → verdict_of (image_of s) ≡ Ok count → (i : ℕ) → i < count → Standing s i
 standing_of s count v i h = standing s i (omega (arith, counted (image_of s) count v))
 
 -- the range of a block has two addresses or numbers
@@ -88,7 +89,7 @@ range_length {s} {i} x h =
 -- a part lies in the record, and so in the image
 pub contents_in_image : {s : List ℕ} {i : ℕ} → Standing s i → (which : Part) → Inside (length s) (contents_span which s (start_of s i))
 contents_in_image {s} {i} x which =
-    let k = field-inside s (start_of s i) (length s) _ _ _ x.field-here in
+    let k = field-inside s (start_of s i) (length s) _ x.field-here in
     let l = x.contents-inside which in
     record { forward = l.forward; within = le_trans l.within k.within }
 

@@ -1,49 +1,63 @@
 // The records of a sound image by their tags and numbers: those with a tag, and the range, the handle or the name of one.
 #![tactic(auto)]
 
-ghost use Rattle.std.specs.Prelude.{◌≡◌, ◌≤◌};
-ghost use Rattle.registry.specs.Tags.{entity};
+ghost use Rattle.std.specs.Prelude.{◌≡◌, ◌+◌, ◌≤◌, ◌<◌, length};
+ghost use Rattle.registry.specs.Limits.{most_image};
+ghost use Rattle.registry.specs.Tags.{entity, head_length};
 ghost use Rattle.image.specs.Image.{image_of};
 ghost use Rattle.image.specs.Part.{excerpt_of, PartFrom};
-ghost use Rattle.image.specs.Entries.{contents_span, span_of, PartSpan};
+ghost use Rattle.image.specs.Entries.{start_of, contents_span, span_of, PartSpan};
 ghost use Rattle.image.specs.Index.{Indexed, FirstFrom, RunOf};
+ghost use Rattle.entries.specs.Alike.{Indexed-prop};
 
-use fields::Field;
-use halves::middle;
-use image::{Run, Verdict, index};
+use image::{Run, index};
 use reader::read;
 use records::{Span, handle_span, name_span, range_span};
 use registry::{MOST_RECORDS, Part, PerRecord};
 
-// The number of the first record of a sound image whose tag is not below this one; their number, if there is none. By halves, since the
-// records are sorted by tag.
-pub fn first_from(image: &[u8], starts: &PerRecord, count: u32, tag: u8) -> u32
-    requires { Indexed image.now count starts.now }
-    ensures { FirstFrom image.now count tag result }
-{
-    let mut low: u32 = 0;
-    let mut high = count;
-    while low < high {
-        let i = middle(low, high);
-        if image[starts[i as usize] as usize] < tag {
-            low = i + 1;
-        } else {
-            high = i;
-        }
-    }
-    low
+// A sound image, how many records it has, and where each starts.
+#[derive(Clone, Copy)]
+pub struct SoundImage<'a> {
+    pub bytes: &'a [u8],
+    pub starts: &'a PerRecord,
+    pub count: u32,
+    pub ghost indexed: { Indexed bytes.now count starts.now } by { Indexed-prop bytes.now count starts.now },
 }
 
-// The records of a sound image with a tag from low to high.
-pub fn run_of(image: &[u8], starts: &PerRecord, count: u32, low: u8, high: u8) -> Run
-    requires { Indexed image.now count starts.now × (low ≤ high) × (high ≤ entity) }
-    ensures { (result.low ≡ low) × (result.high ≡ high) × RunOf image.now count result }
-{
-    Run {
-        low,
-        high,
-        from: first_from(image, starts, count, low),
-        until: first_from(image, starts, count, high + 1),
+impl<'a> SoundImage<'a> {
+    // Where the record with this number starts. Its head is in the image, which is not too large.
+    pub fn start_of(self, number: u32) -> usize
+        requires { number < self.count }
+        ensures is { result ≡ start_of self.entry.bytes.now number }
+        ensures inside { result + head_length ≤ length self.entry.bytes.now }
+        ensures fits { length self.entry.bytes.now ≤ most_image }
+    {
+        self.starts[number as usize] as usize
+    }
+
+    // The number of the first record whose tag is not below this one; their number, if there is none. The records are sorted by
+    // tag, and each start is in the image: no 0 is read in place of a tag.
+    pub fn first_from(self, tag: u8) -> u32
+        ensures { FirstFrom self.entry.bytes.now self.entry.count tag result }
+    {
+        let (bytes, starts) = (self.bytes, self.starts);
+        starts[..self.count as usize].partition_point(|start| {
+            let found = bytes.get(*start as usize).copied();
+            found.unwrap_or(0) < tag
+        }) as u32
+    }
+
+    // The records with a tag from low to high.
+    pub fn run_of(self, low: u8, high: u8) -> Run
+        requires { (low ≤ high) × (high ≤ entity) }
+        ensures { (result.low ≡ low) × (result.high ≡ high) × RunOf self.entry.bytes.now self.entry.count result }
+    {
+        Run {
+            low,
+            high,
+            from: self.first_from(low),
+            until: self.first_from(high + 1),
+        }
     }
 }
 
@@ -51,13 +65,13 @@ pub fn run_of(image: &[u8], starts: &PerRecord, count: u32, low: u8, high: u8) -
 pub fn contents_span(image: &[u8], at: usize, which: Part) -> Span
     ensures { result ≡ contents_span which image.now at }
 {
-    let Field::Whole { tag, start, end } = read(image, at) else {
-        return Span { start: 0, end: 0 };
+    let Some(record) = read(image, at) else {
+        return Span::default();
     };
     match which {
-        Part::Range => range_span(image, tag, start, end),
-        Part::Handle => handle_span(image, tag, start, end),
-        Part::Name => name_span(image, tag, start, end),
+        Part::Range => range_span(image, record),
+        Part::Handle => handle_span(image, record),
+        Part::Name => name_span(image, record),
     }
 }
 
@@ -66,11 +80,11 @@ pub fn part_span(image: &[u8], number: u32, which: Part) -> Span
     ensures { PartSpan image.now number which result }
 {
     let mut starts = [0u32; MOST_RECORDS];
-    let Verdict::Sound(count) = index(image, &mut starts) else {
-        return Span { start: 0, end: 0 };
+    let Ok(count) = index(image, &mut starts) else {
+        return Span::default();
     };
     if count <= number {
-        return Span { start: 0, end: 0 };
+        return Span::default();
     }
     contents_span(image, starts[number as usize] as usize, which)
 }
@@ -80,7 +94,5 @@ pub fn part(image: &[u8], number: u32, which: Part) -> &[u8]
     ensures { PartFrom image.entry (span_of image.now number which).start (excerpt_of (image_of image.now) number which) result }
 {
     let span = part_span(image, number, which);
-    let start = span.start;
-    let end = span.end;
-    &image[start..end]
+    &image[span.start..span.end]
 }

@@ -5,27 +5,26 @@ use Prim.Native.Nat.{ℕ, zero, suc, ◌+◌, ◌-◌, ◌*◌, ◌≤◌, ◌<�
 use mathlib.Core.Bool.{Bool, true, false}
 use native.Mathlib.Omega.{arith}
 use borrow.Author.Tests.{lt-ltb, le-ltb, ltb-false, leb-true, le-leb, eq-eqb, eqb-true}
+use Rattle.std.specs.Prelude.{Option, Some, None}
 use lib.Dec.{leb, ltb, eqb}
 use lib.ListN.{length, get_or, take}
 use lib.Seq.{get_or-take, length-take-le}
-use Rattle.fields.specs.Positions.{length_at, field_at, end_by, end_between, behind, passed, field_after}
+use Rattle.fields.specs.Positions.{length_at, field_at, end_by, end_between, behind, passed, field_after, field_of}
 use Rattle.fields.specs.declared.Field.{Field}
-use Rattle.fields.specs.declared.Field.TheVariants.{Whole, Short}
-use Rattle.fields.specs.declared.End.TheVariants.{At, Nothing}
 
 module _ (s : List ℕ) (at end : ℕ) where
-  pub no-head : end - at < 3 → Short ≡ field_at s at end
+  pub no-head : end - at < 3 → None ≡ field_at s at end
   unfolding field_at
   no-head h = simp (lt-ltb _ _ h)
 
   module _ (h l : ℕ) (p : h ≡ get_or s (at + 1) 0) (q : l ≡ get_or s (at + 2) 0) (t : 3 ≤ end - at) where
-    pub too_long : end - at < h * 256 + l + 3 → Short ≡ field_at s at end
+    pub too_long : end - at < h * 256 + l + 3 → None ≡ field_at s at end
     unfolding field_at
     too_long k =
         let m : end - (at + 3) < h * 256 + l = omega arith in
         rw (← p, ← q) (simp (le-ltb _ _ t, lt-ltb _ _ m))
 
-    pub whole : h * 256 + l + 3 ≤ end - at → Whole (get_or s at 0) (at + 3) (at + 3 + (h * 256 + l)) ≡ field_at s at end
+    pub whole : h * 256 + l + 3 ≤ end - at → Some (field_of (get_or s at 0) (at + 3) (at + 3 + (h * 256 + l))) ≡ field_at s at end
     unfolding field_at
     whole k =
         let m : h * 256 + l ≤ end - (at + 3) = omega arith in
@@ -35,7 +34,7 @@ module _ (s : List ℕ) (at end : ℕ) where
 module _ (s : List ℕ) (at end low high tag : ℕ) where
   -- a test that fails leaves none
   pub none-ends : (3 ≤ end - at → length_at s at ≤ end - (at + 3) → get_or s at 0 ≡ tag → low ≤ length_at s at → length_at s at ≤ high → ⊥)
-      → Nothing ≡ end_between low high tag (field_at s at end)
+      → None ≡ end_between low high tag (field_at s at end)
   unfolding field_at end_by
   none-ends n = by_tests (ltb (end - at) 3) (ltb (end - (at + 3)) (length_at s at)) (eqb (get_or s at 0) tag) (leb low (length_at s at)) (leb (length_at s at) high) refl refl refl refl refl
     where
@@ -43,7 +42,7 @@ module _ (s : List ℕ) (at end low high tag : ℕ) where
       d = omega arith
 
       by_tests : (t u v w x : Bool) → ltb (end - at) 3 ≡ t → ltb (end - (at + 3)) (length_at s at) ≡ u → eqb (get_or s at 0) tag ≡ v
-          → leb low (length_at s at) ≡ w → leb (length_at s at) high ≡ x → Nothing ≡ end_between low high tag (field_at s at end)
+          → leb low (length_at s at) ≡ w → leb (length_at s at) high ≡ x → None ≡ end_between low high tag (field_at s at end)
       by_tests true u v w x e f g h i = rw e
       by_tests false true v w x e f g h i = rw (e, f)
       by_tests false false false w x e f g h i = rw (e, f, g)
@@ -51,7 +50,7 @@ module _ (s : List ℕ) (at end low high tag : ℕ) where
       by_tests false false true true false e f g h i = rw (e, f, g, d, h, i)
       by_tests false false true true true e f g h i = absurd (n (ltb-false _ _ e) (ltb-false _ _ f) (eqb-true _ _ g) (leb-true _ _ h) (leb-true _ _ i))
 
-  pub one-ends : (n : ℕ) → length_at s at ≡ n → get_or s at 0 ≡ tag → at + 3 + n ≤ end → low ≤ n → n ≤ high → At (at + 3 + n) ≡ end_between low high tag (field_at s at end)
+  pub one-ends : (n : ℕ) → length_at s at ≡ n → get_or s at 0 ≡ tag → at + 3 + n ≤ end → low ≤ n → n ≤ high → Some (at + 3 + n) ≡ end_between low high tag (field_at s at end)
   unfolding field_at end_by
   one-ends n e t k l h =
       let d : at + 3 + n - (at + 3) ≡ n = omega arith in
@@ -82,32 +81,27 @@ front-after s n at end h = rw (length-take-le end s h, front-passed s n at end) 
 
 -- the steps of a reader
 module _ (s : List ℕ) (end : ℕ) where
-  stays : (n at : ℕ) → field_at s at end ≡ Short → passed s n at end ≡ at
+  stays : (n at : ℕ) → field_at s at end ≡ None → passed s n at end ≡ at
   unfolding passed
   stays zero at e = refl
   stays (suc n) at e = rw e (stays n at e)
 
   -- a walk of n steps of which i are done
-  pub none_done : (n at : ℕ) → passed s (n - 0) at end ≡ passed s n at end
-  none_done n at =
-      let d : n - 0 ≡ n = omega arith in
-      rw d
-
   pub none_left : (n i at to : ℕ) → n ≤ i → passed s (n - i) to end ≡ passed s n at end → to ≡ passed s n at end
   unfolding passed
   none_left n i at to h e =
       let d : n - i ≡ 0 = omega arith in
       rw d at e
 
-  module _ (at : ℕ) (f : Field) (e : f ≡ field_at s at end) where
-    pub stops : (m : ℕ) → f ≡ Short → at ≡ passed s m at end
-    stops m k = sym (stays m at (sym e ∙ k))
+  module _ (at : ℕ) (e : Option Field) (k : e ≡ field_at s at end) where
+    pub stops : (m : ℕ) → e ≡ None → at ≡ passed s m at end
+    stops m h = sym (stays m at (sym k ∙ h))
 
-    goes_on : (m tag from to : ℕ) → f ≡ Whole tag from to → passed s (suc m) at end ≡ passed s m to end
+    goes_on : (m : ℕ) (f : Field) → e ≡ Some f → passed s (suc m) at end ≡ passed s m f.end end
     unfolding passed
-    goes_on m tag from to k = rw (← e, k)
+    goes_on m f h = rw (← k, h)
 
-    pub steps : (n i tag from to : ℕ) → f ≡ Whole tag from to → i < n → passed s (n - (i + 1)) to end ≡ passed s (n - i) at end
-    steps n i tag from to k h =
+    pub steps : (n i : ℕ) (f : Field) → e ≡ Some f → i < n → passed s (n - (i + 1)) f.end end ≡ passed s (n - i) at end
+    steps n i f h l =
         let d : n - i ≡ suc (n - (i + 1)) = omega arith in
-        rw d (sym (goes_on (n - (i + 1)) tag from to k))
+        rw d (sym (goes_on (n - (i + 1)) f h))

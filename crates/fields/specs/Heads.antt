@@ -1,16 +1,17 @@
 -- Serves contracts and proofs. The field by positions is the head of the part of the image that it looks at (`head-slice`), has the tag that stands there (`field-tag`)
 -- and lies inside the part (`field-inside`).
 use Rattle.std.proofs.Math.Path.{◌≡◌}
-use Rattle.std.specs.Prelude.{refl, Bool, List, [], ◌∷◌, ℕ, zero, suc, ◌+◌, ◌-◌, ◌≤◌, ◌<◌, length, get_or, ltb}
-use Rattle.std.proofs.Common.{sym, ◌∙◌, arith}
+use Rattle.std.specs.Prelude.{refl, Bool, List, [], ◌∷◌, ℕ, zero, suc, ◌+◌, ◌-◌, ◌≤◌, ◌<◌, length, get_or, ltb, Some, None}
+use Rattle.std.proofs.Common.{sym, ap, ◌∙◌, arith}
+use Rattle.std.proofs.lemmas.Option.{none-some, same_Some}
 use Rattle.std.proofs.Math.Bool.{true, false}
 use borrow.Author.Tests.{le-leb, lt-leb, ltb-true, ltb-false}
 use Rattle.std.proofs.Math.Seq.{slice, slice-cons, length-slice}
 use Rattle.registry.specs.Tags.{head_length}
 use Rattle.fields.specs.Field.{short, head_of}
-use Rattle.fields.specs.Positions.{field_at, head_at, length_at, FieldInside, behind, passed, field_after}
+use Rattle.fields.specs.Positions.{field_at, head_at, length_at, FieldInside, behind, passed, field_after, field_of}
 use Rattle.fields.specs.Slices.{take-slice, drop-slice}
-use Rattle.fields.specs.declared.Field.TheVariants.{Whole, Short}
+use Rattle.fields.specs.declared.Field.{Field}
 
 head-short : (l : List ℕ) → length l < 3 → head_of l ≡ short
 unfolding head_of
@@ -43,30 +44,29 @@ module _ (s : List ℕ) (at end : ℕ) (p : at ≤ end) (q : end ≤ length s) w
   head-slice = by-room (ltb (end - at) 3) (ltb (end - (at + head_length)) (length_at s at)) refl refl
 
 -- what is known where a whole field stands
-record Stands (s : List ℕ) (at end t a b : ℕ) : Type 0 where
+record Stands (s : List ℕ) (at end : ℕ) (f : Field) : Type 0 where
   room : 3 ≤ end - at
   fits : length_at s at ≤ end - (at + head_length)
-  is : Whole (get_or s at 0) (at + head_length) (at + head_length + length_at s at) ≡ Whole t a b
+  is : field_of (get_or s at 0) (at + head_length) (at + head_length + length_at s at) ≡ f
 
-module _ (s : List ℕ) (at end t a b : ℕ) where
-  stands_by : (v w : Bool) → ltb (end - at) 3 ≡ v → ltb (end - (at + head_length)) (length_at s at) ≡ w → field_at s at end ≡ Whole t a b → Stands s at end t a b
+module _ (s : List ℕ) (at end : ℕ) (f : Field) where
+  stands_by : (v w : Bool) → ltb (end - at) 3 ≡ v → ltb (end - (at + head_length)) (length_at s at) ≡ w → field_at s at end ≡ Some f → Stands s at end f
   unfolding field_at
-  stands_by true w p q e = let k : Short ≡ Whole t a b = rw p at e in let z : ◌≡◌ {A = ℕ} 0 1 = cc in absurd (omega arith)
-  stands_by false true p q e = let k : Short ≡ Whole t a b = rw (p, q) at e in let z : ◌≡◌ {A = ℕ} 0 1 = cc in absurd (omega arith)
-  stands_by false false p q e = record { room = ltb-false _ _ p; fits = ltb-false _ _ q; is = (rw (p, q) at e) }
+  stands_by true w p q e = let k : None ≡ Some f = rw p at e in absurd (none-some f k)
+  stands_by false true p q e = let k : None ≡ Some f = rw (p, q) at e in absurd (none-some f k)
+  stands_by false false p q e = record { room = ltb-false _ _ p; fits = ltb-false _ _ q; is = same_Some _ _ (rw (p, q) at e) }
 
-  stands : field_at s at end ≡ Whole t a b → Stands s at end t a b
+  stands : field_at s at end ≡ Some f → Stands s at end f
   stands e = stands_by (ltb (end - at) 3) (ltb (end - (at + head_length)) (length_at s at)) refl refl e
 
-  pub field-tag : field_at s at end ≡ Whole t a b → t ≡ get_or s at 0
-  field-tag e = let k = (stands e).is in cc
+  pub field-tag : field_at s at end ≡ Some f → f.tag ≡ get_or s at 0
+  field-tag e = sym (ap (λ (x : Field). x.tag) (stands e).is)
 
-  pub field-inside : field_at s at end ≡ Whole t a b → FieldInside at end a b
+  pub field-inside : field_at s at end ≡ Some f → FieldInside at end f.start f.end
   field-inside e =
       let w = stands e in
-      let k : Whole (get_or s at 0) (at + head_length) (at + head_length + length_at s at) ≡ Whole t a b = w.is in
-      let x : at + head_length ≡ a = cc in
-      let y : at + head_length + length_at s at ≡ b = cc in
+      let x : at + head_length ≡ f.start = ap (λ (x : Field). x.start) w.is in
+      let y : at + head_length + length_at s at ≡ f.end = ap (λ (x : Field). x.end) w.is in
       record { after = x; forward = omega arith; within = omega (arith, w.room, w.fits) }
 
 -- the last of a reader's steps

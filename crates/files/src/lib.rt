@@ -5,7 +5,7 @@
 ghost use Rattle.std.specs.Prelude.{◌≡◌, ◌+◌, ◌≤◌, ◌<◌, IfOk, IfSome, length};
 ghost use Rattle.registry.specs.Limits.{most_image};
 
-use registry::{MOST_COUNT, MOST_IMAGE};
+use registry::{Defect, Flaw, MOST_COUNT, MOST_IMAGE};
 use std::env::FillError;
 use std::io::{Cursor, ErrorKind, Read, Write};
 use std::rt::{Env, Files};
@@ -21,10 +21,6 @@ pub fn tell_number(err: &impl Print, n: u64) {
     let _ = err.print(n);
 }
 
-fn wide(n: u32) -> u64 {
-    n as u64
-}
-
 // The handle or the name of a record, if it is not empty.
 pub fn tell_name(err: &impl Print, name: &[u8]) {
     if name.len() == 0 {
@@ -37,63 +33,63 @@ pub fn tell_name(err: &impl Print, name: &[u8]) {
 
 // A record: its number and, if it is not empty, its handle.
 pub fn tell_record(err: &impl Print, number: u32, handle: &[u8]) {
-    tell_number(err, wide(number));
+    tell_number(err, u64::from(number));
     tell_name(err, handle);
 }
 
-fn tell_defect_number(err: &impl Print, defect: u32) {
+fn tell_defect_number(err: &impl Print, defect: Defect) {
     tell(err, b"defect ");
-    tell_number(err, wide(defect));
+    tell_number(err, u64::from(defect.number()));
 }
 
-fn tell_defect_words(err: &impl Print, defect: u32, place: u32) {
-    match defect {
-        1 => tell(err, b"it is longer than 262144 bytes"),
-        2 => tell(err, b"it does not start with the bytes 01 00 01 01"),
-        3 => {
-            if place < MOST_COUNT {
+fn tell_defect_words(err: &impl Print, flaw: Flaw) {
+    match flaw.defect {
+        Defect::TooLong => tell(err, b"it is longer than 262144 bytes"),
+        Defect::BadStart => tell(err, b"it does not start with the bytes 01 00 01 01"),
+        Defect::BadRecord => {
+            if flaw.place < MOST_COUNT {
                 tell(err, b"it is cut short or has an unknown tag");
             } else {
                 tell(err, b"it comes after 4096 others");
             }
         }
-        4 => tell(
+        Defect::BadFields => tell(
             err,
             b"an inner field is missing, out of order or of a wrong length",
         ),
-        5 => tell(
+        Defect::BadContents => tell(
             err,
             b"what a field holds is not of its form, or first is above last",
         ),
-        6 => tell(err, b"it does not sort after the record before it"),
-        _ => tell(err, b"it overlaps an earlier block without lying inside it"),
+        Defect::Unsorted => tell(err, b"it does not sort after the record before it"),
+        Defect::Crossing => tell(err, b"it overlaps an earlier block without lying inside it"),
     }
 }
 
 // A defect, in number and words.
-pub fn tell_defect(err: &impl Print, defect: u32, place: u32) {
-    tell_defect_number(err, defect);
+pub fn tell_defect(err: &impl Print, flaw: Flaw) {
+    tell_defect_number(err, flaw.defect);
     tell(err, b": ");
-    tell_defect_words(err, defect, place);
+    tell_defect_words(err, flaw);
 }
 
-// The defect of an image, and the record that has it, as the end of a line. Defects 1 and 2 are of no record.
-pub fn tell_defective(err: &impl Print, defect: u32, place: u32, handle: &[u8]) {
-    tell_defect_number(err, defect);
-    if 2 < defect {
+// The defect of an image, and the record that has it, as the end of a line. A long image or a wrong start is of no record.
+pub fn tell_defective(err: &impl Print, flaw: Flaw, handle: &[u8]) {
+    tell_defect_number(err, flaw.defect);
+    if !matches!(flaw.defect, Defect::TooLong | Defect::BadStart) {
         tell(err, b" in record ");
-        tell_record(err, place, handle);
+        tell_record(err, flaw.place, handle);
     }
     tell(err, b": ");
-    tell_defect_words(err, defect, place);
+    tell_defect_words(err, flaw);
     tell(err, b"\n");
 }
 
 // What is wrong with an image file.
-pub fn tell_image(err: &impl Print, name: &[u8], defect: u32, place: u32) {
+pub fn tell_image(err: &impl Print, name: &[u8], flaw: Flaw) {
     tell(err, name);
     tell(err, b": ");
-    tell_defective(err, defect, place, b"");
+    tell_defective(err, flaw, b"");
 }
 
 // The words of an error that is displayed: the system's errors have their number after the words.
@@ -262,18 +258,12 @@ pub fn read_whole(rt: &impl Files, err: &impl Print, name: &[u8], room: &mut [u8
     room.len()
 }
 
-fn least(a: usize, b: usize) -> usize
-    ensures { (result ≤ a) × (result ≤ b) }
-{
-    if a < b { a } else { b }
-}
-
 // The bytes from start up to end, as far as there are any.
 pub fn part(s: &[u8], start: usize, end: usize) -> &[u8]
     ensures { (length result.now ≤ end) × (length result.now ≤ length s.now) }
 {
-    let until = least(end, s.len());
-    let from = least(start, until);
+    let until = end.min(s.len());
+    let from = start.min(until);
     &s[from..until]
 }
 

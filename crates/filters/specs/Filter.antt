@@ -1,6 +1,5 @@
 -- Router filters: the prefixes of a network in a template (S12.7).
-use Rattle.std.specs.Prelude.{ℕ, ◌+◌, ◌-◌, ◌*◌, cond, ◌||◌, List, [], ◌∷◌, ◌++◌, ltb, length}
-use Rattle.std.proofs.Math.Option.{Option, none, some}
+use Rattle.std.specs.Prelude.{ℕ, ◌+◌, ◌-◌, ◌*◌, cond, ◌||◌, List, [], ◌∷◌, ◌++◌, ltb, length, Option, None, Some}
 use Rattle.numeral.specs.Digits.{decimal_text}
 use Rattle.cidr.specs.Prefixes.{Prefix}
 use Rattle.prefix_bytes.specs.Entry.{big_endian}
@@ -21,8 +20,8 @@ unfoldable pub laid_out : Template → IpRange → List ℕ
 laid_out l a = l.head ++ rows_of l a.width (prefixes_in a) ++ l.foot
 
 unfoldable pub network_text : Format → (handle : List ℕ) → Option IpRange → List ℕ
-network_text f handle none = []
-network_text f handle (some a) = laid_out (template_of f a.width (name_in f handle)) a
+network_text f handle None = []
+network_text f handle (Some a) = laid_out (template_of f a.width (name_in f handle)) a
 
 -- S12.7: the filter of a network with this handle and this range of bytes
 unfoldable pub filter_text : Format → (handle range : List ℕ) → List ℕ

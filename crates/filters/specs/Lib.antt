@@ -1,4 +1,5 @@
 pub mod Filter
 pub mod Rows
+pub mod Listed
 pub mod Computing
 pub mod Examples

@@ -1,54 +1,42 @@
 -- The changes applied to a sound image, by the index of its records.
-use mathlib.Core.Path.{◌≡◌, sym, ◌∙◌, ap}
+use mathlib.Core.Path.{◌≡◌, sym, ◌∙◌, ap, subst}
 use mathlib.Core.List.{List}
-use Prim.Native.Nat.{ℕ, ◌≤◌, ◌<◌}
+use Prim.Native.Nat.{ℕ, ◌<◌}
 use native.Mathlib.Omega.{arith}
 use borrow.Author.Tests.{le-leb, lt-leb}
-use lib.ListN.{length, take, drop}
-use Rattle.image.specs.Image.{sound, image_of}
+use lib.ListN.{length, take}
+use Rattle.std.specs.Prelude.{Result, Ok, Err}
+use Rattle.image.specs.Image.{image_of}
 use Rattle.image.specs.Part.{records_of}
 use Rattle.image.specs.Index.{Indexed}
-use Rattle.image.proofs.Soundness.{is-sound, few-records}
-use Rattle.rows.specs.Entry.{Entry, entries_of}
-use Rattle.rows.proofs.Images.{entries-good}
-use Rattle.rows.proofs.Rows.{parsed-entries}
-use Rattle.rows.proofs.Ordering.{sound-ordered}
-use Rattle.merged.specs.Held.{entries_at, Held, Merged, Starting}
-use Rattle.merged.proofs.Rows.{index_entries}
-use Rattle.changes.specs.Limits.{most_changes, most_entries}
-use Rattle.changes.specs.Change.{changes_of}
+use Rattle.rows.specs.Entry.{Entry}
+use Rattle.merged.specs.Held.{entries_at}
+use Rattle.merged.specs.declared.Records.{Records}
+use Rattle.merged.specs.Listed.{starts_in, listed}
+use Rattle.merged.proofs.Started.{before-changes}
+use Rattle.changes.specs.Limits.{most_changes}
+use Rattle.changes.specs.Change.{refused_at, changes_of}
 use Rattle.applying.specs.Steps.{AppliedTo}
-use Rattle.applying.specs.declared.Applied.{Applied}
-use Rattle.applying.specs.declared.Applied.TheVariants.{Done, RefusedAt}
 use Rattle.final_list.specs.Final.{changed_in, ChangedTo}
 
-pub is_read : {image starts : List ℕ} {count : ℕ} → Indexed image count starts → image_of image ≡ sound (records_of (image_of image))
-is_read {image} {starts} {count} x = is-sound (image_of image) count x.sound
+-- the records that the image's index holds, changed
+module _ {starts : List ℕ} {count : ℕ} (before after : Records) (x : Indexed before.image.now count starts) (n : before.count ≡ count) (e : starts_in before ≡ take count starts) where
+  changed-is : changed_in before.image.now before.changes.now (records_of (image_of before.image.now)) ≡ changes_of (listed before) before.changes.now
+  changed-is =
+      let f : take count before.starts ≡ take count starts = ap (λ (k : ℕ). take k before.starts) (sym n) ∙ e in
+      rw (le-leb (length before.changes.now) most_changes before.changes_fit)
+      (ap (λ (es : List Entry). changes_of es before.changes.now)
+      (sym (before-changes before.changes.now before.starts x f) ∙ ap (λ (k : ℕ). entries_at before.image.now before.changes.now (take k before.starts)) (sym n)))
 
--- the index of a sound image holds its records
-module _ {image starts index : List ℕ} {count : ℕ} (changes : List ℕ) (x : Indexed image count starts) (w : Starting index count (take count starts)) where
-  before-changes : entries_at image changes (take count index) ≡ entries_of (records_of (image_of image)) (drop 4 image)
-  before-changes = ap (entries_at image changes) w.first ∙ index_entries image starts count x changes
+  pub changed-to : (r : Result Unit ℕ) → AppliedTo before after r → ChangedTo before.image.now before.changes.now after r
+  changed-to (Ok _) a = changed-is ∙ a.0
+  changed-to (Err offset) a = (changed-is ∙ a.0, omega (arith, a.1, before.changes_fit))
 
-  index_held : Held image changes (take count index)
-  index_held = record {
-    good = rw before-changes (entries-good image (records_of (image_of image)) (is_read x));
-    ordered = rw (before-changes, parsed-entries (records_of (image_of image)) (drop 4 image)) (sound-ordered image (records_of (image_of image)) (is_read x));
-  }
+-- the same where the records were made of these files
+module _ {image changes starts : List ℕ} {count : ℕ} (before after : Records) (x : Indexed image count starts) (i : before.image.now ≡ image) (c : before.changes.now ≡ changes) (n : before.count ≡ count)
+    (e : starts_in before ≡ take count starts) where
+  pub changed-by : (r : Result Unit ℕ) → AppliedTo before after r → ChangedTo image changes after r
+  changed-by r a = subst (λ (s : List ℕ). ChangedTo image s after r) c (subst (λ (s : List ℕ). ChangedTo s before.changes.now after r) i (changed-to before after (subst (λ (s : List ℕ). Indexed s count starts) (sym i) x) n e r a))
 
-  pub index_merged : Merged image changes index count
-  index_merged = record { full = w.full; few = omega (arith, few-records _ _ x.sound); held = index_held }
-
-  module _ (h : length changes ≤ most_changes) (after : List ℕ) where
-    changed-is : changed_in image changes (records_of (image_of image)) ≡ changes_of (entries_at image changes (take count index)) changes
-    changed-is = rw (le-leb (length changes) most_changes h) (ap (λ (es : List Entry). changes_of es changes) (sym before-changes))
-
-    pub changed-to : (r : Applied) → AppliedTo image changes (entries_at image changes (take count index)) after r → ChangedTo image changes after r
-    changed-to (Done n) a = (changed-is ∙ a.0, a.1, a.2, h)
-    changed-to (RefusedAt offset) a = (changed-is ∙ a.0, omega (arith, a.1))
-
-pub after-merged : {image changes index : List ℕ} {n : ℕ} → ChangedTo image changes index (Done n) → length index ≡ most_entries → Merged image changes index n
-after-merged c f = record { full = f; few = c.2; held = c.1 }
-
-pub changed-long : (image changes after : List ℕ) → most_changes < length changes → ChangedTo image changes after (RefusedAt 0)
-changed-long image changes after h = (rw (lt-leb (length changes) most_changes h), omega arith)
+pub changed-long : (image changes : List ℕ) → most_changes < length changes → changed_in image changes (records_of (image_of image)) ≡ refused_at 0
+changed-long image changes h = rw (lt-leb (length changes) most_changes h)

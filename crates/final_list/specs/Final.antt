@@ -1,25 +1,22 @@
 -- Serves contracts and proofs. The final list, and a record of it by its number, for a program that says which one is at fault.
-use Rattle.std.specs.Prelude.{◌≡◌, cond, List, [], ◌∷◌, ℕ, ◌≤◌, leb, length, take, drop}
+use Rattle.std.specs.Prelude.{◌≡◌, cond, List, [], ◌∷◌, ℕ, ◌≤◌, leb, length, drop, Result, Ok, Err}
 use Rattle.records.specs.Record.{Record}
 use Rattle.image.specs.Image.{Image, sound, defective, image_of}
 use Rattle.image.specs.Part.{records_of}
 use Rattle.rows.specs.Entry.{Entry, entries_of}
-use Rattle.changes.specs.Limits.{most_changes, most_entries}
+use Rattle.changes.specs.Limits.{most_changes}
 use Rattle.changes.specs.Change.{Changed, done, refused_at, changes_of}
-use Rattle.merged.specs.Held.{entries_at, Held}
-use Rattle.applying.specs.declared.Applied.{Applied}
-use Rattle.applying.specs.declared.Applied.TheVariants.{Done, RefusedAt}
+use Rattle.merged.specs.Listed.{listed}
+use Rattle.merged.specs.declared.Records.{Records}
 
 -- the changes of a file applied to the records of an image
 abbrev pub changed_in : List ℕ → List ℕ → List Record → Changed
 changed_in image changes records = cond (leb (length changes) most_changes) (changes_of (entries_of records (drop 4 image)) changes) (refused_at 0)
 
--- as the code tells it, by the index afterwards
-abbrev pub ChangedTo : List ℕ → List ℕ → List ℕ → Applied → Type 0
-ChangedTo image changes index (Done n) =
-    (changed_in image changes (records_of (image_of image)) ≡ done (entries_at image changes (take n index))) × Held image changes (take n index) × (n ≤ most_entries)
-    × (length changes ≤ most_changes)
-ChangedTo image changes index (RefusedAt offset) = (changed_in image changes (records_of (image_of image)) ≡ refused_at offset) × (offset ≤ most_changes)
+-- as the code tells it, by the records afterwards
+abbrev pub ChangedTo : List ℕ → List ℕ → Records → Result Unit ℕ → Type 0
+ChangedTo image changes after (Ok _) = changed_in image changes (records_of (image_of image)) ≡ done (listed after)
+ChangedTo image changes after (Err offset) = (changed_in image changes (records_of (image_of image)) ≡ refused_at offset) × (offset ≤ most_changes)
 
 abbrev pub bytes_of_first : List Entry → List ℕ
 bytes_of_first [] = []

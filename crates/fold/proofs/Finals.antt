@@ -8,23 +8,25 @@ use lib.ListN.{length, take, drop}
 use Rattle.records.specs.Record.{Record}
 use Rattle.image.specs.Image.{sound, image_of}
 use Rattle.image.specs.Part.{records_of}
-use Rattle.image.specs.Checking.{verdict_of}
-use Rattle.image.specs.declared.Verdict.{Verdict}
-use Rattle.image.specs.declared.Verdict.TheVariants.{Defective}
-use Rattle.image.proofs.Soundness.{is-defective}
+use Rattle.image.specs.Checking.{verdict_of, numbers_in}
+use Rattle.registry.specs.declared.Flaw.{Flaw}
+use Rattle.registry.specs.Defects.{defect_number}
+use Rattle.std.specs.Prelude.{Result, Err}
+use Rattle.image.proofs.Soundness.{is-defective, verdict_defective}
 use Rattle.rows.specs.Entry.{Entry, entries_of, row_of}
 use Rattle.changes.specs.Limits.{most_changes}
 use Rattle.changes.specs.Change.{Changed, done, refused_at, changes_of}
-use Rattle.changes.specs.Fold.{bad_image, bad_change, finished, after_changes, fold_of, after_image}
+use Rattle.changes.specs.Fold.{bad_change, finished, after_changes, fold_of, after_image}
 use Rattle.final_list.specs.Final.{changed_in}
-use Rattle.final_image.specs.Call.{folded_of, Gives}
-use Rattle.final_image.specs.declared.Folded.{Folded}
+use Rattle.final_image.specs.Call.{Gives}
+use Rattle.final_image.specs.declared.FoldError.{FoldError}
+use Rattle.final_image.specs.declared.FoldError.TheVariants as Errors
 
 module _ (image changes before : List ℕ) where
-  pub fold-defective : (v : Verdict) → v ≡ verdict_of (image_of image) → (d p : ℕ) → v ≡ Defective d p → (r : Folded) → r ≡ folded_of (bad_image 2 d p)
-      → Gives (fold_of image changes (length before)) before before r
+  pub fold-defective : (v : Result ℕ Flaw) → numbers_in v ≡ verdict_of (image_of image) → (flaw : Flaw) → v ≡ Err flaw
+      → Gives (fold_of image changes (length before)) before before (Err (Errors.Image flaw))
   unfolding fold_of
-  fold-defective v e d p f r g = rw (is-defective (image_of image) d p (sym e ∙ f)) (record { numbers = g; out = refl })
+  fold-defective v e flaw f = rw (is-defective (image_of image) _ _ (verdict_defective e f)) (record { numbers = refl; out = refl })
 
   module _ (s : image_of image ≡ sound (records_of (image_of image))) (c : Changed) (e : changed_in image changes (records_of (image_of image)) ≡ c) where
     by_length : (records : List Record) (t : Bool)
@@ -39,11 +41,11 @@ module _ (image changes before : List ℕ) where
         ap (after_image image changes (length before)) s ∙ by_length (records_of (image_of image)) (leb (length changes) most_changes)
         ∙ ap (after_changes (take 4 image) (length before)) e
 
-  pub fold-refused : image_of image ≡ sound (records_of (image_of image)) → (o : ℕ) → changed_in image changes (records_of (image_of image)) ≡ refused_at o → (r : Folded)
-      → r ≡ folded_of (bad_change o) → Gives (fold_of image changes (length before)) before before r
-  fold-refused s o e r g = rw (fold_is s (refused_at o) e) (record { numbers = g; out = refl })
+  pub fold-refused : image_of image ≡ sound (records_of (image_of image)) → (o : ℕ) → changed_in image changes (records_of (image_of image)) ≡ refused_at o
+      → Gives (fold_of image changes (length before)) before before (Err (Errors.Change o))
+  fold-refused s o e = rw (fold_is s (refused_at o) e) (record { numbers = refl; out = refl })
 
   pub fold-finished : image_of image ≡ sound (records_of (image_of image)) → (es : List Entry) → changed_in image changes (records_of (image_of image)) ≡ done es
-      → (after : List ℕ) (r : Folded) → Gives (finished (take 4 image ++ row_of es) (length before) (image_of (take 4 image ++ row_of es))) before after r
+      → (after : List ℕ) (r : Result ℕ FoldError) → Gives (finished (take 4 image ++ row_of es) (length before) (image_of (take 4 image ++ row_of es))) before after r
       → Gives (fold_of image changes (length before)) before after r
   fold-finished s es e after r a = rw (fold_is s (done es) e) a

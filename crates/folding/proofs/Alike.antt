@@ -9,6 +9,7 @@ use native.Mathlib.Numerals.{add-one}
 use lib.Dec.{eqb}
 use lib.ListN.{length, get_or, take, drop, drop_of_length-le}
 use lib.Seq.{drop-cons}
+use lib.Pointwise.{pointwise}
 use Rattle.octets.proofs.Connectives.{and-false}
 use Rattle.texts.specs.Compare.{fold_if, alike}
 
@@ -69,3 +70,11 @@ alike_others s t n = by-test (alike false s t) refl
     by-test : (b : Bool) → alike false s t ≡ b → b ≡ false
     by-test false e = refl
     by-test true e = absurd (n (alike_same s t e))
+
+-- what std's comparison answers
+pub pointwise-alike : (s t : List ℕ) → pointwise eqb s t ≡ alike false s t
+unfolding alike fold_if
+pointwise-alike [] [] = refl
+pointwise-alike [] (d ∷ t) = refl
+pointwise-alike (c ∷ s) [] = refl
+pointwise-alike (c ∷ s) (d ∷ t) = ap (λ b. eqb c d && b) (pointwise-alike s t)

@@ -9,20 +9,15 @@ ghost use Rattle.texts.specs.Compare.{fold_if, alike};
 pub fn folded(c: u8) -> u8
     ensures { result ≡ fold c }
 {
-    if (b'A' <= c) & (c <= b'Z') {
-        return c - b'A' + b'a';
-    }
-    c
+    c.to_ascii_lowercase()
 }
 
 // Folds s where it stands.
 pub fn fold_in(s: &mut [u8])
     ensures { s.new ≡ map fold s.old }
 {
-    let mut i: usize = 0;
-    while i < s.len() {
-        s[i] = folded(s[i]);
-        i += 1;
+    for c in s.iter_mut() {
+        *c = folded(*c);
     }
 }
 
@@ -30,30 +25,17 @@ pub fn fold_in(s: &mut [u8])
 pub fn without_final_dot(s: &[u8]) -> &[u8]
     ensures { result.now ≡ without_final_dot s.now }
 {
-    let n = s.len();
-    if n == 0 {
-        return s;
-    }
-    if s[n - 1] == b'.' {
-        return &s[..n - 1];
-    }
-    s
+    s.strip_suffix(b".").unwrap_or(s)
 }
 
 // Whether two bytes are the same, after folding where fold says so. Few pairs need to be folded.
 fn same_byte(fold: bool, c: u8, d: u8) -> bool
     ensures { result ≡ eqb (fold_if fold c) (fold_if fold d) }
 {
-    if c == d {
-        return true;
-    }
-    if fold {
-        return folded(c) == folded(d);
-    }
-    false
+    c == d || (fold && folded(c) == folded(d))
 }
 
-// How many bytes at the start of both are the same, in eights.
+// How many bytes at the start of both are the same, in eights: long names are compared so in fewer steps.
 fn same_eights(a: &[u8], b: &[u8]) -> usize
     requires { length a.now ≡ length b.now }
     ensures { (result ≤ length a.now) × (take result a.now ≡ take result b.now) }
@@ -84,12 +66,10 @@ pub fn same(fold: bool, a: &[u8], b: &[u8]) -> bool
     if !same_byte(fold, a[n - 1], b[n - 1]) {
         return false;
     }
-    let mut i = same_eights(a, b);
-    while i < n {
+    for i in same_eights(a, b)..n {
         if !same_byte(fold, a[i], b[i]) {
             return false;
         }
-        i += 1;
     }
     true
 }
@@ -98,5 +78,5 @@ pub fn same(fold: bool, a: &[u8], b: &[u8]) -> bool
 pub fn equal(a: &[u8], b: &[u8]) -> bool
     ensures { result ≡ alike false a.now b.now }
 {
-    same(false, a, b)
+    a == b
 }

@@ -1,65 +1,18 @@
--- The templates by number: the texts lie inside the list of all, and each template is the one of its number.
-use Prim.Native.Nat.{ℕ, zero, suc, ◌+◌, ◌-◌, ◌≤◌, ◌<◌}
-use mathlib.Core.Bool.{Bool, true, false, ◌&&◌}
+-- Each template is the one of its style.
+use Prim.Native.Nat.{ℕ}
+use mathlib.Core.Bool.{Bool, true, false}
 use mathlib.Core.Path.{◌≡◌, refl}
-use mathlib.Core.List.{List}
-use native.Mathlib.Omega.{arith}
-use native.Mathlib.Decide.{ℕ_discrete}
-use borrow.Author.Tests.{leb-true}
-use lib.Dec.{leb, eqb}
-use lib.ListN.{length, drop, length-drop}
-use lib.Seq.{length-take-le}
-use Rattle.octets.specs.Ascii.{ascii}
-use Rattle.octets.proofs.Connectives.{and_left, and_right}
+use mathlib.Core.List.{List, []}
+use lib.Dec.{eqb}
 use Rattle.formats.specs.declared.Format.{Format}
 use Rattle.formats.specs.declared.Format.TheVariants.{Plain, Cisco, Bird, Juniper, Json}
-use Rattle.formats.specs.Template.{template_of}
-use Rattle.formats.specs.Styles.{style_of, texts, starts, start_of, text_at, template_at}
-
--- a test passes at each number below n
-below : (ℕ → Bool) → ℕ → Bool
-below p zero = true
-below p (suc n) = p n && below p n
-
-at_each : (p : ℕ → Bool) (n : ℕ) → below p n ≡ true → (k : ℕ) → k < n → p k ≡ true
-unfolding below
-at_each p zero e k h = absurd (omega arith)
-at_each p (suc n) e k h = go (ℕ_discrete k n) (at_each p n (and_right (p n) (below p n) e) k)
-  where
-    go : Dec (k ≡ n) → (k < n → p k ≡ true) → p k ≡ true
-    go (yes i) later = rw i (and_left (p n) (below p n) e)
-    go (no i) later = later (omega arith)
-
-inside : ℕ → Bool
-inside k = leb (start_of k) (start_of (k + 1)) && leb (start_of (k + 1)) 240
-
-all-inside : below inside 48 ≡ true
-unfolding below inside starts
-all-inside = refl
-
-pub texts-length : length texts ≡ 240
-unfolding texts ascii
-texts-length = refl
-
-module _ (k : ℕ) (h : k < 48) where
-  here : leb (start_of k) (start_of (k + 1)) && leb (start_of (k + 1)) 240 ≡ true
-  unfolding inside
-  here = at_each inside 48 all-inside k h
-
-  pub in_order_lem : start_of k ≤ start_of (k + 1)
-  in_order_lem = leb-true (start_of k) (start_of (k + 1)) (and_left (leb (start_of k) (start_of (k + 1))) (leb (start_of (k + 1)) 240) here)
-
-  pub in_texts : start_of (k + 1) ≤ 240
-  in_texts = leb-true (start_of (k + 1)) 240 (and_right (leb (start_of k) (start_of (k + 1))) (leb (start_of (k + 1)) 240) here)
-
-  pub text-length : length (text_at k) ≡ start_of (k + 1) - start_of k
-  unfolding text_at
-  text-length =
-      length-take-le (start_of (k + 1) - start_of k) (drop (start_of k) texts)
-      (omega (arith, in_order_lem, in_texts, length-drop (start_of k) texts, texts-length))
+use Rattle.formats.specs.declared.Style.{Style}
+use Rattle.formats.specs.declared.Style.TheVariants as S
+use Rattle.formats.specs.Template.{template_of, end_of}
+use Rattle.formats.specs.Styles.{style_of, template_at}
 
 pub same_template : (f : Format) (width : ℕ) (name : List ℕ) → template_of f width name ≡ template_at (style_of f width) name
-unfolding template_of style_of texts starts text_at ascii
+unfolding template_of
 same_template Plain width name = refl
 same_template Cisco width name = go (eqb width 4) refl
   where
@@ -69,3 +22,30 @@ same_template Cisco width name = go (eqb width 4) refl
 same_template Bird width name = refl
 same_template Juniper width name = refl
 same_template Json width name = refl
+
+-- what has no name in it is the same for every name
+
+pub same_slash : (t : Style) (name : List ℕ) → (template_at t []).slash ≡ (template_at t name).slash
+same_slash S.Plain name = refl
+same_slash S.CiscoIpv4 name = refl
+same_slash S.CiscoIpv6 name = refl
+same_slash S.Bird name = refl
+same_slash S.Juniper name = refl
+same_slash S.Json name = refl
+
+pub same_end : (t : Style) (name : List ℕ) (left : ℕ) → end_of (template_at t []) left ≡ end_of (template_at t name) left
+unfolding end_of
+same_end S.Plain name left = refl
+same_end S.CiscoIpv4 name left = refl
+same_end S.CiscoIpv6 name left = refl
+same_end S.Bird name left = refl
+same_end S.Juniper name left = refl
+same_end S.Json name left = refl
+
+pub same_foot : (t : Style) (name : List ℕ) → (template_at t []).foot ≡ (template_at t name).foot
+same_foot S.Plain name = refl
+same_foot S.CiscoIpv4 name = refl
+same_foot S.CiscoIpv6 name = refl
+same_foot S.Bird name = refl
+same_foot S.Juniper name = refl
+same_foot S.Json name = refl

@@ -1,11 +1,11 @@
 // The names and the templates of router filters (S12.7).
 #![tactic(auto)]
 
-ghost use Rattle.std.specs.Prelude.{◌≡◌, cond, [], ◌+◌, ◌-◌, ◌≤◌, ◌<◌, length, take, drop};
+ghost use Rattle.std.specs.Prelude.{◌≡◌, cond, [], ◌++◌, ◌≤◌, length};
 ghost use Rattle.octets.specs.Ascii.{code};
 ghost use Rattle.output.specs.Writing.{Written};
 ghost use Rattle.formats.specs.Template.{is_allowed, name_in, end_of};
-ghost use Rattle.formats.specs.Styles.{style_of, texts, start_of, text_at, named_at, template_at};
+ghost use Rattle.formats.specs.Styles.{style_of, template_at};
 
 use output::put_bytes;
 use pieces::{between, has_byte, is_word};
@@ -58,122 +58,148 @@ pub fn put_name(format: Format, handle: &[u8], out: &mut [u8]) -> usize
     requires { length handle.now ≤ length out.old }
     ensures { Written (name_in format handle.now) out.old out.new result }
 {
-    for i in 0..handle.len() {
-        out[i] = name_byte(format, i, handle[i]);
+    for (i, c) in handle.iter().enumerate() {
+        out[i] = name_byte(format, i, *c);
     }
     handle.len()
 }
 
-// The texts of a template by their numbers: the head before and after the name, what stands before each prefix, before and after the name, the
-// slash, what stands after each prefix but the last, after the last, and the foot.
-const BEFORE: usize = 2;
+// The templates. Cisco has one for IPv4 and one for IPv6.
+#[derive(Clone, Copy)]
+pub enum Style {
+    Plain,
+    CiscoIpv4,
+    CiscoIpv6,
+    Bird,
+    Juniper,
+    Json,
+}
 
-pub const SLASH: usize = 4;
-
-const BETWEEN: usize = 5;
-
-const LAST: usize = 6;
-
-pub const FOOT: usize = 7;
-
-// The texts of all templates, one after another, eight for each style.
-const TEXTS: [u8; 240] =
-    *b" /\n\nno ip prefix-list \nip prefix-list  permit /\n\nno ipv6 prefix-list \nipv6 prefix-list  permit /\n\n = [\n    /,\n\n];\npolicy-options {\nreplace:\n prefix-list  {\n    /;\n;\n }\n}\n{ \"\": [\n    { \"prefix\": \"\\/\", \"exact\": true },\n\", \"exact\": true }\n] }\n";
-
-// Where each of them starts.
-const STARTS: [usize; 49] = [
-    0, 0, 0, 0, 1, 2, 3, 4, 4, 22, 23, 38, 46, 47, 48, 49, 49, 69, 70, 87, 95, 96, 97, 98, 98, 98,
-    103, 107, 107, 108, 110, 111, 114, 153, 156, 160, 160, 161, 163, 165, 170, 173, 178, 195, 195,
-    197, 217, 236, 240,
-];
-
-// The number of a template: Cisco has one for IPv4 and one for IPv6.
-pub fn style_of(format: Format, width: usize) -> usize
-    ensures { (result ≡ style_of format width) × (result < 6) }
+// The template of a format, by the bytes of an address.
+pub fn style_of(format: Format, width: usize) -> Style
+    ensures { result ≡ style_of format width }
 {
     match format {
-        Format::Plain => 0,
+        Format::Plain => Style::Plain,
         Format::Cisco => {
             if width == 4 {
-                return 1;
+                return Style::CiscoIpv4;
             }
-            2
+            Style::CiscoIpv6
         }
-        Format::Bird => 3,
-        Format::Juniper => 4,
-        Format::Json => 5,
+        Format::Bird => Style::Bird,
+        Format::Juniper => Style::Juniper,
+        Format::Json => Style::Json,
     }
-}
-
-fn start_of(k: usize) -> usize
-    requires { k < 49 }
-    ensures { result ≡ start_of k }
-{
-    STARTS[k]
-}
-
-fn all_texts() -> [u8; 240]
-    ensures { result ≡ texts }
-{
-    TEXTS
-}
-
-// A part of a text.
-fn put_part(s: &[u8], from: usize, end: usize, out: &mut [u8]) -> usize
-    requires { (from ≤ end) × (end ≤ length s.now) × (end - from ≤ length out.old) }
-    ensures { Written (take (end - from) (drop from s.now)) out.old out.new result }
-{
-    put_bytes(&s[from..end], out)
-}
-
-// The text with a number.
-pub fn put_fixed(k: usize, out: &mut [u8]) -> usize
-    requires { (k < 48) × (length (text_at k) ≤ length out.old) }
-    ensures { Written (text_at k) out.old out.new result }
-{
-    let from = start_of(k);
-    let end = start_of(k + 1);
-    let s = all_texts();
-    put_part(&s, from, end, out)
 }
 
 // A name between two texts.
-fn put_named(k: usize, name: &[u8], out: &mut [u8]) -> usize
-    requires { (k < 47) × (length (named_at k name.now) ≤ length out.old) }
-    ensures { Written (named_at k name.now) out.old out.new result }
+fn put_around(front: &[u8], name: &[u8], back: &[u8], out: &mut [u8]) -> usize
+    requires { length (front.now ++ name.now ++ back.now) ≤ length out.old }
+    ensures { Written (front.now ++ name.now ++ back.now) out.old out.new result }
 {
-    let mut at = put_fixed(k, out);
+    let mut at = put_bytes(front, out);
     at += put_bytes(name, &mut out[at..]);
-    at + put_fixed(k + 1, &mut out[at..])
+    at + put_bytes(back, &mut out[at..])
 }
 
-pub fn put_head(style: usize, name: &[u8], out: &mut [u8]) -> usize
-    requires { (style < 6) × (length (template_at style name.now).head ≤ length out.old) }
+// What stands before the first prefix.
+#[tactic(auto, unfolding(octets::specs::Ascii::ascii))]
+pub fn put_head(style: Style, name: &[u8], out: &mut [u8]) -> usize
+    requires { length (template_at style name.now).head ≤ length out.old }
     ensures { Written (template_at style name.now).head out.old out.new result }
 {
-    if style == 0 {
-        return 0;
+    match style {
+        Style::Plain => put_bytes(b"", out),
+        Style::CiscoIpv4 => put_around(b"no ip prefix-list ", name, b"\n", out),
+        Style::CiscoIpv6 => put_around(b"no ipv6 prefix-list ", name, b"\n", out),
+        Style::Bird => put_around(b"", name, b" = [\n", out),
+        Style::Juniper => put_around(
+            b"policy-options {\nreplace:\n prefix-list ",
+            name,
+            b" {\n",
+            out,
+        ),
+        Style::Json => put_around(b"{ \"", name, b"\": [\n", out),
     }
-    put_named(8 * style, name, out)
 }
 
-pub fn put_before(style: usize, name: &[u8], out: &mut [u8]) -> usize
-    requires { (style < 6) × (length (template_at style name.now).before ≤ length out.old) }
+// What stands before each prefix.
+#[tactic(auto, unfolding(octets::specs::Ascii::ascii))]
+pub fn put_before(style: Style, name: &[u8], out: &mut [u8]) -> usize
+    requires { length (template_at style name.now).before ≤ length out.old }
     ensures { Written (template_at style name.now).before out.old out.new result }
 {
-    if style < 3 {
-        return put_named(8 * style + BEFORE, name, out);
+    match style {
+        Style::Plain => put_around(b"", name, b" ", out),
+        Style::CiscoIpv4 => put_around(b"ip prefix-list ", name, b" permit ", out),
+        Style::CiscoIpv6 => put_around(b"ipv6 prefix-list ", name, b" permit ", out),
+        Style::Bird => put_bytes(b"    ", out),
+        Style::Juniper => put_bytes(b"    ", out),
+        Style::Json => put_bytes(b"    { \"prefix\": \"", out),
     }
-    put_fixed(8 * style + BEFORE, out)
+}
+
+// What stands between an address and its length.
+#[tactic(auto, unfolding(octets::specs::Ascii::ascii))]
+pub fn put_slash(style: Style, out: &mut [u8]) -> usize
+    requires { length (template_at style []).slash ≤ length out.old }
+    ensures { Written (template_at style []).slash out.old out.new result }
+{
+    match style {
+        Style::Json => put_bytes(b"\\/", out),
+        _ => put_bytes(b"/", out),
+    }
+}
+
+// What follows each prefix but the last.
+#[tactic(auto, unfolding(octets::specs::Ascii::ascii))]
+fn put_separator(style: Style, out: &mut [u8]) -> usize
+    requires { length (template_at style []).separator ≤ length out.old }
+    ensures { Written (template_at style []).separator out.old out.new result }
+{
+    match style {
+        Style::Bird => put_bytes(b",\n", out),
+        Style::Juniper => put_bytes(b";\n", out),
+        Style::Json => put_bytes(b"\", \"exact\": true },\n", out),
+        _ => put_bytes(b"\n", out),
+    }
+}
+
+// What follows the last prefix.
+#[tactic(auto, unfolding(octets::specs::Ascii::ascii))]
+fn put_last(style: Style, out: &mut [u8]) -> usize
+    requires { length (template_at style []).last ≤ length out.old }
+    ensures { Written (template_at style []).last out.old out.new result }
+{
+    match style {
+        Style::Juniper => put_bytes(b";\n", out),
+        Style::Json => put_bytes(b"\", \"exact\": true }\n", out),
+        _ => put_bytes(b"\n", out),
+    }
 }
 
 // What follows a prefix after which so many are left.
-pub fn put_end(style: usize, left: usize, out: &mut [u8]) -> usize
-    requires { (style < 6) × (length (end_of (template_at style []) left) ≤ length out.old) }
+pub fn put_end(style: Style, left: usize, out: &mut [u8]) -> usize
+    requires { length (end_of (template_at style []) left) ≤ length out.old }
     ensures { Written (end_of (template_at style []) left) out.old out.new result }
 {
     if left == 0 {
-        return put_fixed(8 * style + LAST, out);
+        return put_last(style, out);
     }
-    put_fixed(8 * style + BETWEEN, out)
+    put_separator(style, out)
+}
+
+// What stands at the end.
+#[tactic(auto, unfolding(octets::specs::Ascii::ascii))]
+pub fn put_foot(style: Style, out: &mut [u8]) -> usize
+    requires { length (template_at style []).foot ≤ length out.old }
+    ensures { Written (template_at style []).foot out.old out.new result }
+{
+    match style {
+        Style::Bird => put_bytes(b"];\n", out),
+        Style::Juniper => put_bytes(b" }\n}\n", out),
+        Style::Json => put_bytes(b"] }\n", out),
+        _ => put_bytes(b"", out),
+    }
 }

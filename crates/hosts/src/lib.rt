@@ -37,11 +37,9 @@ fn host_run(s: &[u8], step: usize, at: usize, n: usize) -> bool
     ensures { result ≡ run (follow_at s.now) at n }
 {
     let mut good = true;
-    let mut i: usize = 0;
-    while i < n {
+    for i in 0..n {
         let j = at + i;
         good = good & may_follow(s[j], s[j + step]);
-        i += 1;
     }
     good
 }
@@ -119,9 +117,8 @@ fn long_host_ok(s: &[u8]) -> bool
     }
     let mut label: usize = 0;
     let mut hyphen = false;
-    let mut i: usize = 0;
-    while i < s.len() {
-        let b = s[i];
+    for b in s {
+        let b = *b;
         if b == b'.' {
             if !label_ok(label, hyphen) {
                 return false;
@@ -141,7 +138,6 @@ fn long_host_ok(s: &[u8]) -> bool
             label += 1;
             hyphen = false;
         }
-        i += 1;
     }
     label_ok(label, hyphen)
 }

@@ -12,11 +12,14 @@ use lib.Seq.{get_or-set_same, get_or-set_other}
 use Rattle.fields.specs.Positions.{field_at, behind, passed}
 use Rattle.fields.specs.Heads.{passed-next}
 use Rattle.image.specs.Image.{image_from, starts_right, image_of}
-use Rattle.image.specs.Checking.{verdict_of}
+use Rattle.image.specs.Checking.{verdict_of, numbers_in}
 use Rattle.image.specs.Entries.{start_of}
 use Rattle.image.specs.Index.{Walking, Indexing}
-use Rattle.image.specs.declared.Verdict.{Verdict}
-use Rattle.image.specs.declared.Verdict.TheVariants.{Sound, Defective}
+use Rattle.std.specs.Prelude.{Result, Ok, Err}
+use Rattle.registry.specs.declared.Defect.{Defect}
+use Rattle.registry.specs.declared.Defect.TheVariants.{TooLong, BadStart}
+use Rattle.registry.specs.declared.Flaw.{Flaw}
+use Rattle.registry.specs.Defects.{defect_number}
 
 -- the first `count` starts of the records from a position on, and the position of the record after them
 pub record Noted (s : List ℕ) (from : ℕ) (starts : List ℕ) (count at : ℕ) : Type 0 where
@@ -45,33 +48,35 @@ module _ (s : List ℕ) (from : ℕ) (starts : List ℕ) where
       by_number i k true x = rw (eqb-true i count x, get_or-set_same starts count at 0 (rw w.full h)) w.here
       by_number i k false x = get_or-set_other starts count i at 0 (eqb-false i count x) ∙ w.noted i (omega (arith, eqb-false i count x))
 
-  pub note_sound : (count at : ℕ) → Noted s from starts count at → Sound count ≡ verdict_of (image_from 4096 [] (drop from s)) → Walking s from starts (Sound count)
+  pub note_sound : (count at : ℕ) → Noted s from starts count at → Ok count ≡ verdict_of (image_from 4096 [] (drop from s)) → Walking s from starts (Ok count)
   note_sound count at w e = record {
     verdict = e;
     full = w.full;
     start = λ n f. let g : n ≡ count = cc in λ i k. w.noted i (omega (arith, k));
   }
 
-  pub note_defective : (d n count at : ℕ) → Noted s from starts count at → Defective d n ≡ verdict_of (image_from 4096 [] (drop from s)) → Walking s from starts (Defective d n)
-  note_defective d n count at w e = record { verdict = e; full = w.full; start = λ m f. let z : ◌≡◌ {A = ℕ} 0 1 = cc in absurd (omega arith) }
+  pub note_defective : (d : Defect) (n count at : ℕ) → Noted s from starts count at → Err (defect_number d, n) ≡ verdict_of (image_from 4096 [] (drop from s))
+      → (f : Flaw) → f ≡ record { defect = d; place = n } → Walking s from starts (Err f)
+  note_defective d n count at w e f k =
+      rw k (record { verdict = e; full = w.full; start = λ m g. let z : ◌≡◌ {A = ℕ} 0 1 = cc in absurd (omega arith) })
 
 -- The index
 
 module _ (s starts : List ℕ) where
-  index_defective : (d n : ℕ) → Defective d n ≡ verdict_of (image_of s) → Indexing s starts (Defective d n)
-  index_defective d n e = record { verdict = e; indexed = λ m f. let z : ◌≡◌ {A = ℕ} 0 1 = cc in absurd (omega arith) }
+  index_defective : (f : Flaw) → numbers_in (Err f) ≡ verdict_of (image_of s) → Indexing s starts (Err f)
+  index_defective f e = record { verdict = e; indexed = λ m g. let z : ◌≡◌ {A = ℕ} 0 1 = cc in absurd (omega arith) }
 
-  pub index_long : 262144 < length s → Indexing s starts (Defective 1 0)
+  pub index_long : 262144 < length s → (f : Flaw) → f ≡ record { defect = TooLong; place = 0 } → Indexing s starts (Err f)
   unfolding image_of
-  index_long h = index_defective 1 0 (rw (lt-leb _ _ h))
+  index_long h f k = index_defective f (rw (k, lt-leb _ _ h))
 
   module _ (h : length s ≤ 262144) where
-    pub index_wrong : starts_right s ≡ false → Indexing s starts (Defective 2 0)
+    pub index_wrong : starts_right s ≡ false → (f : Flaw) → f ≡ record { defect = BadStart; place = 0 } → Indexing s starts (Err f)
     unfolding image_of
-    index_wrong e = index_defective 2 0 (rw (le-leb _ _ h, e))
+    index_wrong e f k = index_defective f (rw (k, le-leb _ _ h, e))
 
-    pub index_walked : starts_right s ≡ true → (r : Verdict) → Walking s 4 starts r → Indexing s starts r
+    pub index_walked : starts_right s ≡ true → (r : Result ℕ Flaw) → Walking s 4 starts r → Indexing s starts r
     unfolding image_of start_of
     index_walked e r w =
-        let v : r ≡ verdict_of (image_of s) = w.verdict ∙ rw (le-leb _ _ h, e) in
-        record { verdict = v; indexed = λ count f. record { sound = sym v ∙ f; full = w.full; start = w.start count f } }
+        let v : numbers_in r ≡ verdict_of (image_of s) = w.verdict ∙ rw (le-leb _ _ h, e) in
+        record { verdict = v; indexed = λ count f. record { sound = sym v ∙ ap numbers_in f; full = w.full; start = w.start count f } }

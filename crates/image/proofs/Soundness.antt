@@ -11,21 +11,30 @@ use Rattle.fields.specs.Field.{head_of}
 use Rattle.records.specs.Record.{Record}
 use Rattle.image.specs.Image.{Image, sound, defective, Next, stopped, taken, next_of, after_next, image_from, starts_right, image_of}
 use Rattle.image.specs.Part.{records_of}
-use Rattle.image.specs.Checking.{verdict_of}
-use Rattle.image.specs.declared.Verdict.TheVariants.{Sound, Defective}
+use Rattle.image.specs.Checking.{verdict_of, numbers_in}
+use Rattle.std.specs.Prelude.{Result, Ok, Err}
+use Rattle.registry.specs.declared.Flaw.{Flaw}
+use Rattle.registry.specs.Defects.{defect_number}
 
 pub not_sound : (d p : ℕ) (records : List Record) → defective d p ≡ sound records → ⊥
 not_sound d p records e = let z : ◌≡◌ {A = ℕ} 0 1 = cc in omega arith
 
-pub is-sound : (i : Image) (n : ℕ) → verdict_of i ≡ Sound n → i ≡ sound (records_of i)
+pub is-sound : (i : Image) (n : ℕ) → verdict_of i ≡ Ok n → i ≡ sound (records_of i)
 is-sound (sound records) n e = refl
 is-sound (defective d p) n e = let z : ◌≡◌ {A = ℕ} 0 1 = cc in absurd (omega arith)
 
-pub is-defective : (i : Image) (d p : ℕ) → verdict_of i ≡ Defective d p → i ≡ defective d p
+pub is-defective : (i : Image) (d p : ℕ) → verdict_of i ≡ Err (d, p) → i ≡ defective d p
 is-defective (sound records) d p e = absurd (let z : ◌≡◌ {A = ℕ} 0 1 = cc in omega arith)
-is-defective (defective x y) d p e = let f : x ≡ d = cc in let g : y ≡ p = cc in ap₂ defective f g
+is-defective (defective x y) d p e = let f : (x, y) ≡ (d, p) = cc in ap₂ defective (ap (λ (q : ℕ × ℕ). q.0) f) (ap (λ (q : ℕ × ℕ). q.1) f)
 
-pub counted : (i : Image) (n : ℕ) → verdict_of i ≡ Sound n → length (records_of i) ≡ n
+-- what the code's verdict says of the definition's
+pub verdict_sound : {v : Result ℕ Flaw} {w : Result ℕ (ℕ × ℕ)} {n : ℕ} → numbers_in v ≡ w → v ≡ Ok n → w ≡ Ok n
+verdict_sound e f = sym e ∙ ap numbers_in f
+
+pub verdict_defective : {v : Result ℕ Flaw} {w : Result ℕ (ℕ × ℕ)} {flaw : Flaw} → numbers_in v ≡ w → v ≡ Err flaw → w ≡ Err (defect_number flaw.defect, flaw.place)
+verdict_defective e f = sym e ∙ ap numbers_in f
+
+pub counted : (i : Image) (n : ℕ) → verdict_of i ≡ Ok n → length (records_of i) ≡ n
 counted (sound records) n e = cc
 counted (defective d p) n e = let z : ◌≡◌ {A = ℕ} 0 1 = cc in absurd (omega arith)
 
@@ -61,7 +70,7 @@ opens s records e = by_tests (leb (length s) 262144) (starts_right s) refl refl 
     by_tests true false x y k = absurd (not_sound _ _ records k)
     by_tests false u x y k = absurd (not_sound _ _ records k)
 
-module _ (s : List ℕ) (count : ℕ) (e : verdict_of (image_of s) ≡ Sound count) where
+module _ (s : List ℕ) (count : ℕ) (e : verdict_of (image_of s) ≡ Ok count) where
   opened : Opens s (records_of (image_of s))
   opened = opens s (records_of (image_of s)) (is-sound (image_of s) count e)
 

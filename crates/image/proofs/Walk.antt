@@ -23,13 +23,9 @@ use Rattle.image.specs.Image.{Image, sound, defective, stopped, taken, after_jud
 use Rattle.image.specs.Checking.{TakenAt, ReadAt, verdict_of}
 use Rattle.nesting.specs.Nest.{Opened, open_last}
 use Rattle.placing.specs.Step.{nest_in, step_in, record_before, Coming, step_on}
-use Rattle.image.specs.declared.Reading.{Reading}
-use Rattle.image.specs.declared.Reading.TheVariants.{Taken, Refused}
-use Rattle.nesting.specs.declared.Nesting.{Nesting}
-use Rattle.nesting.specs.declared.Nesting.TheVariants.{Under, Crossing}
-use Rattle.placing.specs.declared.Stepped.{Stepped}
-use Rattle.placing.specs.declared.Stepped.TheVariants.{Fits, Bad}
-use Rattle.image.specs.declared.Verdict.TheVariants.{Sound, Defective}
+use Rattle.std.specs.Prelude.{Option, Some, None, Result, Ok, Err}
+use Rattle.registry.specs.declared.Defect.{Defect}
+use Rattle.registry.specs.Defects.{defect_number}
 use Rattle.image.proofs.Readings.{read_head}
 use Rattle.records.proofs.Judging.{judged-read}
 use Rattle.records.proofs.Contents.{ranged, range_on}
@@ -99,7 +95,7 @@ walk_start s from l h stack z = record {
 }
 
 module _ (s : List ℕ) (whole : Image) (p : Layout) (stack : List ℕ) (depth count : ℕ) (w : Walked s whole p stack depth count) where
-  pub walk_end : length s ≤ p.end → Sound count ≡ verdict_of whole
+  pub walk_end : length s ≤ p.end → Ok count ≡ verdict_of whole
   walk_end h =
       let e : p.end ≡ length s = omega (arith, w.inside) in
       let f : image_from (4096 - count) w.earlier [] ≡ whole = rw (e, slice_empty (length s) s) at w.rest in
@@ -109,7 +105,7 @@ module _ (s : List ℕ) (whole : Image) (p : Layout) (stack : List ℕ) (depth c
     some_left : 0 < length (slice p.end (length s) s)
     some_left = rw (length-slice p.end (length s) s (le_refl _)) (omega arith)
 
-    pub walk-full : count ≡ 4096 → Defective 3 4096 ≡ verdict_of whole
+    pub walk-full : count ≡ 4096 → Err (3, 4096) ≡ verdict_of whole
     walk-full e =
         let z : 4096 - count ≡ 0 = omega arith in
         rw (← w.rest, z, from-full w.earlier (slice p.end (length s) s) some_left, w.counted, e)
@@ -120,16 +116,16 @@ module _ (s : List ℕ) (whole : Image) (p : Layout) (stack : List ℕ) (depth c
           let z : 4096 - count ≡ suc (4096 - (count + 1)) = omega (arith, w.few, k) in
           rw (← from_next w.earlier (4096 - (count + 1)) (slice p.end (length s) s) some_left, ← z) w.rest
 
-      refused-here : (d : ℕ) → next_of w.earlier (head_of (slice p.end (length s) s)) ≡ stopped d → Defective d count ≡ verdict_of whole
+      refused-here : (d : ℕ) → next_of w.earlier (head_of (slice p.end (length s) s)) ≡ stopped d → Err (d, count) ≡ verdict_of whole
       refused-here d e = let f : defective d (length w.earlier) ≡ whole = rw e at one-step in rw (← f, w.counted)
 
-      module _ (r : Reading) (m : ReadAt s p.end r) where
-        pub walk_refused : (d : ℕ) → r ≡ Refused d → Defective d count ≡ verdict_of whole
+      module _ (r : Result Layout Defect) (m : ReadAt s p.end r) where
+        pub walk_refused : (d : Defect) → r ≡ Err d → Err (defect_number d, count) ≡ verdict_of whole
         walk_refused d e =
-            let f : ReadAt s p.end (Refused d) = rw e at m in
-            refused-here d (f w.earlier)
+            let f : ReadAt s p.end (Err d) = rw e at m in
+            refused-here (defect_number d) (f w.earlier)
 
-        pub walk-taken : (q : Layout) → r ≡ Taken q → Reached s whole p stack depth count q
+        pub walk-taken : (q : Layout) → r ≡ Ok q → Reached s whole p stack depth count q
         walk-taken q e = record { walked = w; more = h; few = k; here = (rw e at m) }
 
 module _ {s : List ℕ} {whole : Image} {p : Layout} {stack : List ℕ} {depth count : ℕ} {q : Layout} (c : Reached s whole p stack depth count q) where
@@ -137,7 +133,7 @@ module _ {s : List ℕ} {whole : Image} {p : Layout} {stack : List ℕ} {depth c
   earlier = c.walked.earlier
 
   pub field-here : FieldInside p.end (length s) q.start q.end
-  field-here = field-inside s p.end (length s) q.tag q.start q.end c.here.stands
+  field-here = field-inside s p.end (length s) _ c.here.stands
 
   pub behind-here : q.end ≡ behind (field_at s p.end (length s)) p.end
   behind-here = rw c.here.stands
@@ -166,39 +162,39 @@ module _ {s : List ℕ} {whole : Image} {p : Layout} {stack : List ℕ} {depth c
       let m = c.here.readable in
       let o : in_order earlier (record_on s q) ≡ u = sym (order-first earlier (record_on s q)) ∙ sym (ap (λ (l : List Record). in_order l (record_on s q)) c.walked.prior) ∙ y in
       rw (
-        read_head s p.end c.walked.inside _ refl q.tag q.start q.end c.here.stands,
+        read_head s p.end c.walked.inside _ refl _ c.here.stands,
         judged-read q.tag (slice q.start q.end s) (record_on s q) m.known m.parsed m.good earlier,
         o,
         z,
       )
 
   -- what the step says of a record
-  abbrev Outcome : Stepped → Type 0
-  Outcome (Bad d) = next_of earlier (head_of (slice p.end (length s) s)) ≡ stopped d
-  Outcome (Fits u) =
+  abbrev Outcome : Result ℕ Defect → Type 0
+  Outcome (Err d) = next_of earlier (head_of (slice p.end (length s) s)) ≡ stopped (defect_number d)
+  Outcome (Ok u) =
       (next_of earlier (head_of (slice p.end (length s) s)) ≡ taken (record_on s q) (slice q.end (length s) s))
       × Goes earlier p.tag (open_last s (width_of p.tag) stack) depth (record_on s q) u
 
   outcome : Outcome (step_on s p s q s stack depth)
   outcome = by_order (in_order (record_before s p) (record_on s q)) refl
     where
-      by-nest : (n : Nesting) → in_order (record_before s p) (record_on s q) ≡ true → Nested earlier p.tag (open_last s (width_of p.tag) stack) depth (record_on s q) n
+      by-nest : (n : Option ℕ) → in_order (record_before s p) (record_on s q) ≡ true → Nested earlier p.tag (open_last s (width_of p.tag) stack) depth (record_on s q) n
           → Outcome (step_in true n)
-      by-nest (Under u) y g = (next-is true false y g.clear, g)
-      by-nest Crossing y g = next-is true true y g
+      by-nest (Some u) y g = (next-is true false y g.clear, g)
+      by-nest None y g = next-is true true y g
 
       by_order : (u : Bool) → in_order (record_before s p) (record_on s q) ≡ u → Outcome (step_in u (nest_in (open_last s (width_of p.tag) stack) p.tag (record_on s q) depth))
       by_order true y = by-nest (nest_in (open_last s (width_of p.tag) stack) p.tag (record_on s q) depth) y (nests c.walked.opened (record_on s q) coming.laid.known (after y) (first-last (record_on s q) c.here.readable.good))
       by_order false y = next-is false (crosses_any earlier (record_on s q)) y refl
 
-  module _ (n : Stepped) (g : n ≡ step_on s p s q s stack depth) where
-    pub walk-bad : (d : ℕ) → n ≡ Bad d → Defective d count ≡ verdict_of whole
+  module _ (n : Result ℕ Defect) (g : n ≡ step_on s p s q s stack depth) where
+    pub walk-bad : (d : Defect) → n ≡ Err d → Err (defect_number d, count) ≡ verdict_of whole
     walk-bad d f =
-        let o : Outcome (Bad d) = rw (← g, f) at outcome in
-        refused-here s whole p stack depth count c.walked c.more c.few d o
+        let o : Outcome (Err d) = rw (← g, f) at outcome in
+        refused-here s whole p stack depth count c.walked c.more c.few (defect_number d) o
 
-    module _ (u : ℕ) (f : n ≡ Fits u) where
-      fits : Outcome (Fits u)
+    module _ (u : ℕ) (f : n ≡ Ok u) where
+      fits : Outcome (Ok u)
       fits = rw (← g, f) at outcome
 
       pub room : u < 4096

@@ -1,10 +1,9 @@
 -- Serves contracts and proofs. The records of a sound image by their numbers: where each stands, and where its range, handle and name are,
 -- which `SpanIsPart` ties to the calls that hand back a part (S2.2, S2.7).
-use Rattle.std.specs.Prelude.{cond, ◌≡◌, List, ℕ, ltb, length}
+use Rattle.std.specs.Prelude.{cond, ◌≡◌, List, ℕ, ltb, length, Option, Some, None}
 use Rattle.std.proofs.Math.Seq.{slice}
 use Rattle.fields.specs.Positions.{field_at, passed}
 use Rattle.fields.specs.declared.Field.{Field}
-use Rattle.fields.specs.declared.Field.TheVariants.{Whole, Short}
 use Rattle.records.specs.Positions.{range_span, handle_span, name_span, Inside}
 use Rattle.records.specs.declared.Span.{Span}
 use Rattle.image.specs.Image.{image_of}
@@ -17,11 +16,11 @@ unfoldable pub start_of : List ℕ → ℕ → ℕ
 start_of s i = passed s i 4 (length s)
 
 -- a part of the record that a field is; 0 and 0 if it is none
-abbrev pub contents_in : Part → List ℕ → Field → Span
-contents_in which s Short = record { start = 0; end = 0 }
-contents_in Range s (Whole tag start end) = range_span s tag start end
-contents_in Handle s (Whole tag start end) = handle_span s tag start end
-contents_in Name s (Whole tag start end) = name_span s tag start end
+abbrev pub contents_in : Part → List ℕ → Option Field → Span
+contents_in which s None = record { start = 0; end = 0 }
+contents_in Range s (Some f) = range_span s f.tag f.start f.end
+contents_in Handle s (Some f) = handle_span s f.tag f.start f.end
+contents_in Name s (Some f) = name_span s f.tag f.start f.end
 
 -- of the record at a position
 unfoldable pub contents_span : Part → List ℕ → ℕ → Span

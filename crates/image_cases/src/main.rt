@@ -5,11 +5,10 @@
 // where its handle starts, its handle, where its name starts, its name.
 #![tactic(auto)]
 
-ghost use Rattle.std.specs.Prelude.{◌≤◌, ◌<◌};
+ghost use Rattle.std.specs.Prelude.{◌≤◌};
 
 use files::{fail, image_room, read_full};
-use image::Verdict;
-use registry::Part;
+use registry::{Flaw, Part};
 use std::fs;
 use std::rt::Files;
 
@@ -21,27 +20,17 @@ fn number(rt: &impl Print, n: u64) {
     let _ = rt.print(n);
 }
 
-fn small(n: u32) -> u64 {
-    n as u64
-}
-
-fn wide(b: u8) -> usize
-    ensures { result < 256 }
-{
-    b as usize
-}
-
 // A line with defect and place; the number of lines of parts to follow.
-fn verdict(rt: &impl Print, v: Verdict) -> u32 {
+fn verdict(rt: &impl Print, v: Result<u32, Flaw>) -> u32 {
     match v {
-        Verdict::Sound(count) => {
+        Ok(count) => {
             write(rt, b"0 0\n");
             count
         }
-        Verdict::Defective(defect, place) => {
-            number(rt, small(defect));
+        Err(flaw) => {
+            number(rt, u64::from(flaw.defect.number()));
             write(rt, b" ");
-            number(rt, small(place));
+            number(rt, u64::from(flaw.place));
             write(rt, b"\n");
             0
         }
@@ -81,7 +70,7 @@ fn next(rt: &impl Print, file: &[u8], at: usize) -> usize {
     if file.len() - at < 2 {
         return 0;
     }
-    let size = wide(file[at]) * 256 + wide(file[at + 1]);
+    let size = usize::from(u16::from_be_bytes([file[at], file[at + 1]]));
     let start = at + 2;
     if file.len() - start < size {
         return 0;

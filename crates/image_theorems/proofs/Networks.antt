@@ -1,6 +1,6 @@
 -- The range of an IP network is one of 8 or 32 bytes, by its tag, and its first is not above its last.
+use Rattle.std.specs.Prelude.{Some}
 use Prim.Native.Nat.{ℕ, ◌<◌}
-use mathlib.Core.Option.{some}
 use mathlib.Core.Path.{◌≡◌, sym, ap, ◌∙◌}
 use mathlib.Core.List.{List}
 use native.Mathlib.Omega.{arith}
@@ -28,7 +28,7 @@ module _ (image : List ℕ) (n family : ℕ) (k : Standing image n) (tagged : k.
   tag_is : tag_of image n ≡ family
   tag_is = k.tag ∙ tagged
 
-  its_range : ip_range_of (part_of image n Range) ≡ some (record { width = width_of family; range = range_of k.r })
+  its_range : ip_range_of (part_of image n Range) ≡ Some (record { width = width_of family; range = range_of k.r })
   unfolding part_of
   its_range =
       let h = leb→le family 0x11 ((T_and (leb 0x10 family) (leb family 0x11)).0 ip).1 in
@@ -37,7 +37,7 @@ module _ (image : List ℕ) (n family : ℕ) (k : Standing image n) (tagged : k.
 pub network-range : NetworkRange
 network-range image records e family ip b m = go (block_record_lem family 0 records m)
   where
-    go : BlockRecord family 0 records b → ip_range_of (part_of image b.number Range) ≡ some (record { width = width_of family; range = b.range })
+    go : BlockRecord family 0 records b → ip_range_of (part_of image b.number Range) ≡ Some (record { width = width_of family; range = b.range })
     go s = rw (skipped, s.ranged, same) (its_range image s.skipped family k (ap (λ (r : Record). r.tag) (sym same) ∙ s.tagged) ip)
       where
         skipped : b.number ≡ s.skipped

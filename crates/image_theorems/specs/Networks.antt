@@ -1,6 +1,5 @@
 -- From a record number to prefixes (S2.7, S2.6), for every accepted image. Proved in proofs/Networks.antt.
-use Rattle.std.specs.Prelude.{ℕ, ◌≡◌, List, T}
-use Rattle.std.proofs.Math.Option.{some}
+use Rattle.std.specs.Prelude.{ℕ, ◌≡◌, List, T, Some}
 use Rattle.registry.specs.Tags.{width_of, ipv4_network, ipv6_network}
 use Rattle.octets.specs.Lists.{◌∈◌, within}
 use Rattle.records.specs.Record.{Record}
@@ -15,4 +14,4 @@ abbrev pub NetworkRange : Type 0
 NetworkRange =
     (image : List ℕ) (records : List Record) → image_of image ≡ sound records
     → (family : ℕ) → T (within ipv4_network ipv6_network family) → (b : Block) → b ∈ blocks_of family records
-    → ip_range_of (part_of image b.number Range) ≡ some (record { width = width_of family; range = b.range })
+    → ip_range_of (part_of image b.number Range) ≡ Some (record { width = width_of family; range = b.range })

@@ -1,10 +1,10 @@
 -- Laws of the zone identifier, by what stands after the first percent sign, and the theorem `zones`.
+use Rattle.std.specs.Prelude.{None}
 use Prim.Native.Nat.{ℕ, ◌≤◌, ◌<◌}
 use Prim.Native.Char.{code}
 use mathlib.Core.Path.{◌≡◌, sym, ap, ◌∙◌}
 use mathlib.Core.List.{List, [], ◌∷◌, ◌++◌}
 use mathlib.Core.Bool.{true}
-use mathlib.Core.Option.{none}
 use native.Mathlib.Omega.{arith}
 use lib.ListN.{length}
 use borrow.Author.Tests.{le-leb, lt-leb}
@@ -31,11 +31,11 @@ module _ (s zone : List ℕ) (is : zone ≡ after (code "%") s) where
 
 -- no address has a percent sign
 
-no-ipv4 : (s : List ℕ) → contains (code "%") s ≡ true → ipv4 s ≡ none
+no-ipv4 : (s : List ℕ) → contains (code "%") s ≡ true → ipv4 s ≡ None
 unfolding digit_value
 no-ipv4 = ipv4-not (code "%") (omega arith) (λ e. omega arith)
 
-no-ipv6 : (s : List ℕ) → contains (code "%") s ≡ true → ipv6 s ≡ none
+no-ipv6 : (s : List ℕ) → contains (code "%") s ≡ true → ipv6 s ≡ None
 unfolding digit_value
 no-ipv6 = ipv6-not (code "%") (omega arith) (λ e. omega arith) (omega arith) (λ e. omega arith)
 

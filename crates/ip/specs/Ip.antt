@@ -1,7 +1,6 @@
 -- S8.1, S8.5: the text of an address as its bytes, high byte first; none where it is malformed.
-use Rattle.std.specs.Prelude.{ℕ, List, cond, leb, length}
+use Rattle.std.specs.Prelude.{ℕ, List, cond, leb, length, Option}
 use Prim.Native.Char.{code}
-use Rattle.std.proofs.Math.Option.{Option}
 use Rattle.octets.specs.Split.{before, after}
 use Rattle.ipv4.specs.Ipv4.{ipv4}
 use Rattle.ipv6.specs.Ipv6.{or_else, ipv6}

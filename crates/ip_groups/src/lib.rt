@@ -19,10 +19,8 @@ pub fn octets_of(bytes: &[u8]) -> [u32; 4]
     ensures { result ≡ bytes.now }
 {
     let mut octets = [0u32; 4];
-    let mut i: usize = 0;
-    while i < 4 {
-        octets[i] = bytes[i] as u32;
-        i += 1;
+    for (i, byte) in bytes.iter().enumerate() {
+        octets[i] = *byte as u32;
     }
     octets
 }
@@ -33,17 +31,15 @@ pub fn groups_of(bytes: &[u8]) -> [u32; 8]
     ensures { result ≡ groups_of bytes.now }
 {
     let mut groups = [0u32; 8];
-    let mut i: usize = 0;
-    while i < 8 {
+    for i in 0..8 {
         let high = bytes[2 * i] as u32;
         let low = bytes[2 * i + 1] as u32;
         groups[i] = high * 256 + low;
-        i += 1;
     }
     groups
 }
 
-// One pass over the groups, from the last to the first.
+// One pass over the groups, from the last to the first, by place: the place of a run is what is sought.
 pub fn zero_runs(groups: &[u32]) -> ZeroRuns
     ensures { RunsOf groups.now result.first result.longest result.at }
 {

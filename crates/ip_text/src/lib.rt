@@ -8,7 +8,7 @@ ghost use Rattle.numeral.specs.Digits.{spelled};
 ghost use Rattle.output.specs.Writing.{Written};
 ghost use Rattle.ip_groups.specs.Runs.{LongestRun};
 ghost use Rattle.ip_text.specs.Text.{colons, dotted, shortened, ipv6_text, text_of};
-ghost use Rattle.separated.specs.Base.{radix};
+ghost use Rattle.digits.specs.Base.{radix};
 
 use ip_groups::{groups_of, octets_of, zero_runs};
 use output::put_bytes;

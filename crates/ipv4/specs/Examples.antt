@@ -1,7 +1,6 @@
 -- IPv4 text that is good and that is malformed.
-use Rattle.std.specs.Prelude.{ℕ, ◌≡◌, refl, List, [], ◌∷◌, map}
+use Rattle.std.specs.Prelude.{ℕ, ◌≡◌, refl, List, [], ◌∷◌, map, Option, None, Some}
 use Prim.Native.String.{String}
-use Rattle.std.proofs.Math.Option.{Option, none, some}
 use Rattle.octets.specs.Ascii.{ascii}
 use Rattle.ipv4.specs.Ipv4.{ipv4}
 use Rattle.ipv4.specs.Computing.{computing}
@@ -11,10 +10,10 @@ pub record Case : Type 0 where
   pub bytes : Option (List ℕ)
 
 abbrev pub good : String → List ℕ → Case
-good text bytes = record { text = text; bytes = some bytes }
+good text bytes = record { text = text; bytes = Some bytes }
 
 abbrev pub malformed : String → Case
-malformed text = record { text = text; bytes = none }
+malformed text = record { text = text; bytes = None }
 
 abbrev pub ipv4-cases : List Case
 ipv4-cases =

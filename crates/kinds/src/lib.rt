@@ -6,10 +6,9 @@ ghost use Rattle.kinds.specs.Numbers.{kind_number, which_relation};
 
 use registry::Relation;
 
-// What was asked; None where a refusal has none.
+// What was asked.
 #[derive(Clone, Copy)]
 pub enum Kind {
-    None,
     Ip,
     Autnum,
     Domain,
@@ -20,41 +19,32 @@ pub enum Kind {
     Relation(Relation),
 }
 
-// The kind as a number (S3.3): 1 ip to 8 relation, 0 where no query was read.
-pub fn kind_number(kind: Kind) -> u32
+// The kind as a number (S3.3): 1 ip to 8 relation, 0 where there is none, as no query was read.
+pub fn kind_number(kind: Option<Kind>) -> u32
     ensures { result ≡ kind_number kind }
 {
     match kind {
-        Kind::None => 0,
-        Kind::Ip => 1,
-        Kind::Autnum => 2,
-        Kind::Domain => 3,
-        Kind::Nameserver => 4,
-        Kind::Entity => 5,
-        Kind::Help => 6,
-        Kind::Search => 7,
-        Kind::Relation(_) => 8,
+        None => 0,
+        Some(Kind::Ip) => 1,
+        Some(Kind::Autnum) => 2,
+        Some(Kind::Domain) => 3,
+        Some(Kind::Nameserver) => 4,
+        Some(Kind::Entity) => 5,
+        Some(Kind::Help) => 6,
+        Some(Kind::Search) => 7,
+        Some(Kind::Relation(_)) => 8,
     }
 }
 
 // Which relation a kind is: 1 up, 2 down, 3 top, 4 bottom, 0 where it is none.
-pub fn relation_number(kind: Kind) -> u32
+pub fn relation_number(kind: Option<Kind>) -> u32
     ensures { result ≡ which_relation kind }
 {
     match kind {
-        Kind::None => 0,
-        Kind::Ip => 0,
-        Kind::Autnum => 0,
-        Kind::Domain => 0,
-        Kind::Nameserver => 0,
-        Kind::Entity => 0,
-        Kind::Help => 0,
-        Kind::Search => 0,
-        Kind::Relation(relation) => match relation {
-            Relation::Up => 1,
-            Relation::Down => 2,
-            Relation::Top => 3,
-            Relation::Bottom => 4,
-        },
+        Some(Kind::Relation(Relation::Up)) => 1,
+        Some(Kind::Relation(Relation::Down)) => 2,
+        Some(Kind::Relation(Relation::Top)) => 3,
+        Some(Kind::Relation(Relation::Bottom)) => 4,
+        _ => 0,
     }
 }

@@ -11,16 +11,17 @@ use Rattle.numeral.specs.Digits.{decimal_text, spelled}
 use Rattle.numeral.proofs.Spelled.{following_append, following-most, spelled-most}
 use Rattle.answers.specs.declared.Answer.{Answer}
 use Rattle.kinds.specs.Numbers.{kind_number}
-use Rattle.answers.specs.Reply.{line}
+use Rattle.answers.specs.Reasons.{reason_number}
+use Rattle.answers.specs.Reply.{status_of, line}
 use Rattle.answers.specs.Answered.{reply_of}
 use Rattle.line_text.specs.Line.{following, spaced, line_text}
 
 pub line_parts : (a : Answer) (records : List ℕ) → line_text (reply_of a records) ≡ spaced (line (reply_of a [])) ++ following records ++ (code "\n" ∷ [])
 unfolding line_text spelled line reply_of
 line_parts a records =
-    let head : List ℕ = a.reason ∷ kind_number a.kind ∷ a.count ∷ [] in
+    let head : List ℕ = reason_number a.reason ∷ kind_number a.kind ∷ a.count ∷ [] in
     ap (λ (t : List ℕ). t ++ (code "\n" ∷ []))
-    (ap (λ (t : List ℕ). decimal_text a.status ++ t) (following_append 32 10 head records) ∙ sym (append_assoc (decimal_text a.status) (following head) (following records)))
+    (ap (λ (t : List ℕ). decimal_text (status_of (reason_number a.reason)) ++ t) (following_append 32 10 head records) ∙ sym (append_assoc (decimal_text (status_of (reason_number a.reason))) (following head) (following records)))
 
 -- numbers of 32 bits have at most eleven bytes each
 pub records-most : (ns : List ℕ) → Digits (2 ^ 32) ns → length (following ns) ≤ 11 * length ns

@@ -14,8 +14,12 @@ pub fn put_line(a: Answer, list: &[u32], reported: usize, out: &mut [u8]) -> usi
     requires { (reported ≤ length list.now) × (44 + 11 * reported ≤ length out.old) }
     ensures { Written (line_text (reply_of a (take reported list.now))) out.old out.new result }
 {
-    let kind = a.kind;
-    let head = [a.status, a.reason, kinds::kind_number(kind), a.count];
+    let head = [
+        a.reason.status(),
+        a.reason.number(),
+        kinds::kind_number(a.kind),
+        a.count,
+    ];
     let mut at = put_spelled(b' ', Base::Decimal, &head, out);
     at += put_following(b' ', Base::Decimal, &list[..reported], &mut out[at..]);
     out[at] = b'\n';

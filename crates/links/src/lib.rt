@@ -18,16 +18,14 @@ pub fn gather(starts: &PerRecord, blocks: Run, firsts: &mut PerRecord) -> usize
     ensures { Started starts.now blocks firsts.new result }
 {
     let mut n: usize = 0;
-    let mut i = blocks.from;
-    while i < blocks.until {
+    for i in blocks.from..blocks.until {
         firsts[n] = range_start(starts, i) as u32;
         n += 1;
-        i += 1;
     }
     n
 }
 
-// The first block after block i that does not lie inside it: from child to child, by the links of later blocks.
+// The first block after block i that does not lie inside it: from child to child, by the links of later blocks, so that no range counts the turns.
 fn hop(image: &[u8], family: u8, firsts: &PerRecord, links: &PerRecord, n: usize, i: usize) -> usize
     requires { Gathered image.now family firsts.now n × (i < n) × Linked (blocks_in image.now family) links.now (i + 1) }
     ensures { Link (blocks_in image.now family) i result }
@@ -50,9 +48,7 @@ pub fn links_of(image: &[u8], family: u8, firsts: &PerRecord, n: usize) -> PerRe
     ensures { Linked (blocks_in image.now family) result 0 }
 {
     let mut links = [0u32; MOST_RECORDS];
-    let mut i = n;
-    while 0 < i {
-        i -= 1;
+    for i in (0..n).rev() {
         let next = hop(image, family, firsts, &links, n, i);
         links[i] = next as u32;
     }

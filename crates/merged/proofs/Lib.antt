@@ -3,3 +3,4 @@ pub mod Known
 pub mod Numbered
 pub mod Index
 pub mod Rows
+pub mod Started

@@ -9,10 +9,10 @@ use borrow.Author.Tests.{lt-ltb}
 use lib.Dec.{ltb}
 use lib.ListN.{length, get_or, take, drop, length-append, length-take, length-drop, take-append-drop, drop_of_length-le}
 use lib.Seq.{slice, take-suc, drop-cons, length-slice, drop-drop, length-take-le}
+use Rattle.std.specs.Prelude.{Option, Some, None}
 use Rattle.fields.specs.Field.{field, head_of, size_of}
 use Rattle.fields.specs.Positions.{field_at, behind, passed}
 use Rattle.fields.specs.declared.Field.{Field}
-use Rattle.fields.specs.declared.Field.TheVariants.{Whole, Short}
 use Rattle.records.specs.Record.{Record}
 use Rattle.image.specs.Image.{image_of}
 use Rattle.image.specs.Part.{records_of}
@@ -60,11 +60,11 @@ module _ (image changes index : List ℕ) where
       omega (arith, ap length (row_next i h), length-append (row_of (entries_at image changes (take i index))) (bytes_at image changes (get_or index i 0)))
 
 -- a field is not longer than what holds it
-field_bound : (s : List ℕ) (at : ℕ) (f : Field) → f ≡ field_at s at (length s) → length (field_bytes s at) ≤ length s
-field_bound s at Short e = rw (← bytes-short s at Short e refl) (omega arith)
-field_bound s at (Whole tag a b) e =
-    let i = bytes_inside s at (Whole tag a b) e tag a b refl in
-    rw (← bytes_whole s at (Whole tag a b) e tag a b refl) (omega (arith, length-take (b - at) (drop at s), length-drop at s))
+field_bound : (s : List ℕ) (at : ℕ) (f : Option Field) → f ≡ field_at s at (length s) → length (field_bytes s at) ≤ length s
+field_bound s at None e = rw (← bytes-short s at None e refl) (omega arith)
+field_bound s at (Some f) e =
+    let i = bytes_inside s at (Some f) e f refl in
+    rw (← bytes_whole s at (Some f) e f refl) (omega (arith, length-take (f.end - at) (drop at s), length-drop at s))
 
 pub bytes-bound : (image changes : List ℕ) (start : ℕ) → length image ≤ 262144 → length changes ≤ 262144 → length (bytes_at image changes start) ≤ 262144
 unfolding bytes_at
@@ -79,14 +79,14 @@ pub field-here : (s : List ℕ) (at tag : ℕ) (contents rest : List ℕ) → at
     → field_bytes s at ≡ take (3 + length contents) (drop at s)
 field-here s at tag contents rest h e = by_field (field_at s at (length s)) refl
   where
-    by_field : (f : Field) → f ≡ field_at s at (length s) → field_bytes s at ≡ take (3 + length contents) (drop at s)
-    by_field Short x = absurd (no_field tag contents rest (sym (head-short s at Short x h refl) ∙ e))
-    by_field (Whole t a b) x =
-        let k : field t (slice a b s) (drop b s) ≡ field tag contents rest = sym (head-whole s at (Whole t a b) x t a b refl) ∙ e in
-        let c : slice a b s ≡ contents = cc in
-        let i = bytes_inside s at (Whole t a b) x t a b refl in
-        let n : b - at ≡ 3 + length contents = omega (arith, i.after, i.forward, ap length c, length-slice a b s i.within) in
-        sym (bytes_whole s at (Whole t a b) x t a b refl) ∙ rw n
+    by_field : (f : Option Field) → f ≡ field_at s at (length s) → field_bytes s at ≡ take (3 + length contents) (drop at s)
+    by_field None x = absurd (no_field tag contents rest (sym (head-short s at None x h refl) ∙ e))
+    by_field (Some f) x =
+        let k : field f.tag (slice f.start f.end s) (drop f.end s) ≡ field tag contents rest = sym (head-whole s at (Some f) x f refl) ∙ e in
+        let c : slice f.start f.end s ≡ contents = cc in
+        let i = bytes_inside s at (Some f) x f refl in
+        let n : f.end - at ≡ 3 + length contents = omega (arith, i.after, i.forward, ap length c, length-slice f.start f.end s i.within) in
+        sym (bytes_whole s at (Some f) x f refl) ∙ rw n
 
 -- The starts of an image's records
 
@@ -186,11 +186,11 @@ passed-end image records index i at m h changes =
     sym (append-nil (entries_at image changes (take i index))) ∙ (rw z at (m.noted changes))
 
 -- the field behind the one at a position
-behind-bytes : (s : List ℕ) (at : ℕ) (f : Field) → f ≡ field_at s at (length s) → behind f at ≡ at + length (field_bytes s at)
-behind-bytes s at Short e = rw (← bytes-short s at Short e refl) (omega arith)
-behind-bytes s at (Whole tag a b) e =
-    let i = bytes_inside s at (Whole tag a b) e tag a b refl in
-    rw (← bytes_whole s at (Whole tag a b) e tag a b refl) (omega (arith, i.after, i.forward, i.within, length-take (b - at) (drop at s), length-drop at s))
+behind-bytes : (s : List ℕ) (at : ℕ) (f : Option Field) → f ≡ field_at s at (length s) → behind f at ≡ at + length (field_bytes s at)
+behind-bytes s at None e = rw (← bytes-short s at None e refl) (omega arith)
+behind-bytes s at (Some f) e =
+    let i = bytes_inside s at (Some f) e f refl in
+    rw (← bytes_whole s at (Some f) e f refl) (omega (arith, i.after, i.forward, i.within, length-take (f.end - at) (drop at s), length-drop at s))
 
 -- the index of a sound image holds its records
 module _ (image starts : List ℕ) (count : ℕ) (x : Indexed image count starts) where

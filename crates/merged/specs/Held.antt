@@ -1,11 +1,10 @@
 -- Serves contracts and proofs. The records that an index of starts holds: each is a position of the image or, from 262,144 on, of the change file.
-use Rattle.std.specs.Prelude.{◌≡◌, cond, List, [], ◌++◌, map, ℕ, ◌-◌, ◌*◌, ◌≤◌, ltb, length, take}
+use Rattle.std.specs.Prelude.{◌≡◌, cond, List, [], ◌++◌, map, ℕ, ◌-◌, ◌≤◌, ltb, length, take, Option, Some, None}
 use Rattle.std.proofs.Math.Seq.{slice}
 use Rattle.registry.specs.Limits.{most_image}
 use Rattle.fields.specs.Field.{Head, field, short, head_of}
 use Rattle.fields.specs.Positions.{field_at}
 use Rattle.fields.specs.declared.Field.{Field}
-use Rattle.fields.specs.declared.Field.TheVariants.{Whole, Short}
 use Rattle.records.specs.Record.{Record}
 use Rattle.records.specs.Judge.{Judged, bad, good, judge}
 use Rattle.rows.specs.Entry.{Entry, entry, parsed_of, row_of}
@@ -15,9 +14,9 @@ use Rattle.changes.specs.Limits.{most_entries}
 use Rattle.changes.specs.Change.{keyed}
 
 -- the bytes of the field at a position; none where no whole field stands
-abbrev pub bytes_from : List ℕ → ℕ → Field → List ℕ
-bytes_from s at (Whole tag start end) = slice at end s
-bytes_from s at Short = []
+abbrev pub bytes_from : List ℕ → ℕ → Option Field → List ℕ
+bytes_from s at (Some f) = slice at f.end s
+bytes_from s at None = []
 
 abbrev pub field_bytes : List ℕ → ℕ → List ℕ
 field_bytes s at = bytes_from s at (field_at s at (length s))
@@ -66,15 +65,3 @@ pub record Merged (image changes index : List ℕ) (n : ℕ) : Type 0 where
   pub full : length index ≡ most_entries
   pub few : n ≤ most_entries
   pub held : Held image changes (take n index)
-
--- Serving the functions that change the index
-
--- an index whose first n places are these starts
-pub record Starting (index : List ℕ) (n : ℕ) (starts : List ℕ) : Type 0 where
-  pub first : take n index ≡ starts
-  pub full : length index ≡ most_entries
-
--- how many bytes the records at these starts have
-pub record Sized (image changes starts : List ℕ) (r : ℕ) : Type 0 where
-  pub is : r ≡ length (row_at image changes starts)
-  pub bounded : r ≤ most_image * most_entries

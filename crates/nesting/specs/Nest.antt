@@ -1,15 +1,13 @@
 -- Serves contracts and proofs. A range among those of the open blocks of its family, the innermost last.
-use Rattle.std.specs.Prelude.{cond, List, ℕ, zero, suc, ◌+◌, ◌*◌, ◌≤◌, ◌<◌, leb, length, get_or}
+use Rattle.std.specs.Prelude.{cond, Option, Some, None, List, ℕ, zero, suc, ◌+◌, ◌*◌, ◌≤◌, ◌<◌, leb, length, get_or}
 use Rattle.octets.specs.Positions.{Wide}
 use Rattle.address.specs.Ranges.{Range}
 use Rattle.address.specs.Positions.{range_in}
-use Rattle.nesting.specs.declared.Nesting.{Nesting}
-use Rattle.nesting.specs.declared.Nesting.TheVariants.{Under, Crossing}
 
--- A range goes under the innermost open block that does not end before it, and has to lie inside it. `lasts d` is the last address of open block d.
-abbrev pub nest_of : (ℕ → ℕ) → Range → ℕ → Nesting
-nest_of lasts r zero = Under 0
-nest_of lasts r (suc d) = cond (leb r.first (lasts d)) (cond (leb r.last (lasts d)) (Under (suc d)) Crossing) (nest_of lasts r d)
+-- A range goes under the innermost open block that does not end before it, and has to lie inside it: under how many it lies. `lasts d` is the last address of open block d.
+abbrev pub nest_of : (ℕ → ℕ) → Range → ℕ → Option ℕ
+nest_of lasts r zero = Some 0
+nest_of lasts r (suc d) = cond (leb r.first (lasts d)) (cond (leb r.last (lasts d)) (Some (suc d)) None) (nest_of lasts r d)
 
 -- In positions: the ranges of the open blocks start at the first `depth` positions of `stack` in `o`
 

@@ -1,77 +1,63 @@
--- The last address of a prefix and the address after it, in numbers of two words of k bits.
-use Prim.Native.Nat.{ℕ, suc, ◌+◌, ◌-◌, ◌*◌, ◌^◌, ◌≤◌, ◌<◌}
-use mathlib.Core.Path.{◌≡◌, refl, ap, ◌∙◌}
-use native.Mathlib.Omega.{arith}
+-- A number with its trailing zeros set.
+use Prim.Native.Nat.{ℕ, zero, suc, ◌+◌, ◌-◌, ◌*◌, ◌/◌, ◌%◌, ◌^◌, ◌<◌}
+use mathlib.Core.Path.{◌≡◌, refl, ap, ap₂, ◌∙◌}
 use native.Mathlib.Decide.{dec_lt}
-use lib.Pow.{pow-add, pow_mono, pow_pos}
-use Rattle.cidr.proofs.Multiples.{Multiple, sum, rest, itself, finer, near}
-use Rattle.next_prefix.proofs.Digits.{high-most, high-less}
+use native.Mathlib.Nat.{pow-suc, zero-mul, zero-add}
+use native.Mathlib.Omega.{arith}
+use lib.Bits.{bit_or}
+use lib.Count.{count_trailing_zeros}
+use lib.Pow.{pow_pos}
+use Rattle.std.specs.Int.Bits.{or_self}
+use Rattle.std.proofs.lemmas.Nat.{or_block, or_shifted}
+use Rattle.cidr.proofs.Zeros.{Zeros, zeros}
 
-module _ (k h l : ℕ) (below : l < 2 ^ k) where
-  high_part : Multiple (2 ^ k) (h * 2 ^ k)
-  high_part = record { times = h; equal = refl }
+-- an odd number j * 2 + 1, with z zeros behind it
+module _ (j z : ℕ) where
+  odd : bit_or (j * 2 + 1) (j * 2 + 0) ≡ j * 2 + 1
+  odd = or_block 1 j j 1 0 (omega arith) (omega arith) ∙ rw or_self
 
-  -- the prefix ends in the low word
-  module _ (free : ℕ) {size : ℕ} (short : free < k) (aligned : Multiple (2 ^ free) (h * 2 ^ k + l)) (is : size ≡ 2 ^ free) where
-    inside : l + size ≤ 2 ^ k
-    inside =
-        let m : Multiple (2 ^ free) l = rest aligned (finer free k (omega arith) high_part) in
-        rw is (near (2 ^ free) (sum m (itself (2 ^ free))) (finer free k (omega arith) (itself (2 ^ k))) (omega (arith, pow_pos free)))
+  set-zeros : bit_or ((j * 2 + 1) * 2 ^ z) ((j * 2 + 1) * 2 ^ z - 1) ≡ (j * 2 + 1) * 2 ^ z + (2 ^ z - 1)
+  set-zeros =
+      let p = pow_pos z in
+      let a : (j * 2 + 1) * 2 ^ z ≡ (j * 2 + 1) * 2 ^ z + 0 = omega arith in
+      let low : bit_or 0 (2 ^ z - 1) ≡ 2 ^ z - 1 = rw (zero-mul, zero-add) at (or_shifted 0 z (2 ^ z - 1) (omega arith)) in
+      let b : (j * 2 + 1) * 2 ^ z - 1 ≡ (j * 2 + 0) * 2 ^ z + (2 ^ z - 1) = omega arith in
+      ap₂ bit_or a b ∙ or_block z (j * 2 + 1) (j * 2 + 0) 0 (2 ^ z - 1) p (omega arith)
+      ∙ ap₂ (λ (h l : ℕ). h * 2 ^ z + l) odd low
 
-    pub low_fits : l + (size - 1) < 2 ^ k
-    low_fits = omega (arith, inside, pow_pos free)
-
-    pub low_end : suc (h * 2 ^ k + (l + (size - 1))) ≡ h * 2 ^ k + l + 2 ^ free
-    low_end = omega (arith, pow_pos free)
-
-    pub low-after : h * 2 ^ k + (l + size) ≡ h * 2 ^ k + l + 2 ^ free
-    low-after = omega arith
-
-    -- and with it
-    module _ (full : 2 ^ k ≤ l + size) where
-      pub carried : (h + 1) * 2 ^ k + 0 ≡ h * 2 ^ k + l + 2 ^ free
-      carried = omega (arith, inside)
-
-      pub carry_fits : h * 2 ^ k + l + 2 ^ free < 2 ^ k * 2 ^ k → h + 1 < 2 ^ k
-      carry_fits p = high-less (2 ^ k) (h + 1) 1 (2 ^ k) 0 (omega (arith, carried)) (omega arith)
-
-  -- it fills the low word
-  module _ (free : ℕ) {size : ℕ} (long : k ≤ free) (aligned : Multiple (2 ^ free) (h * 2 ^ k + l)) (is : size ≡ 2 ^ (free - k)) where
-    cleared : l ≡ 0
-    cleared =
-        let m : Multiple (2 ^ k) l = rest (finer k free long aligned) high_part in
-        let n : l ≤ 0 = near (2 ^ k) m (record { times = 0; equal = omega arith }) (omega arith) in
-        omega arith
-
-    whole : 2 ^ free ≡ size * 2 ^ k
-    whole =
-        let e : free ≡ free - k + k = omega arith in
-        ap (λ (n : ℕ). 2 ^ n) e ∙ pow-add 2 (free - k) k ∙ rw is
-
-    pub high_end : (top : ℕ) → suc top ≡ 2 ^ k → suc ((h + (size - 1)) * 2 ^ k + top) ≡ h * 2 ^ k + l + 2 ^ free
-    high_end top e = ends (size - 1) (omega (arith, is, pow_pos (free - k)))
-      where
-        ends : (r : ℕ) → size ≡ suc r → suc ((h + r) * 2 ^ k + top) ≡ h * 2 ^ k + l + 2 ^ free
-        ends r f = rw (cleared, whole, f) (omega arith)
-
-    pub high_after : (h + size) * 2 ^ k + l ≡ h * 2 ^ k + l + 2 ^ free
-    high_after = rw whole (omega arith)
-
-    pub high_fits : h * 2 ^ k + l + 2 ^ free ≤ 2 ^ k * 2 ^ k → h + (size - 1) < 2 ^ k
-    high_fits p =
-        let q : h + size ≤ 2 ^ k = high-most (2 ^ k) (h + size) l (2 ^ k) 0 (omega (arith, high_after)) (pow_pos k) in
-        omega (arith, is, pow_pos (free - k))
-
-    pub after-fits : h * 2 ^ k + l + 2 ^ free < 2 ^ k * 2 ^ k → h + size < 2 ^ k
-    after-fits p = high-less (2 ^ k) (h + size) (suc l) (2 ^ k) 0 (omega (arith, high_after)) (omega arith)
-
--- at w bits: the prefix of all addresses, and one that is not
-pub all_of : (w s : ℕ) {free : ℕ} → free ≤ w → w ≤ free → s + 2 ^ free ≤ 2 ^ w → 2 ^ w ≡ s + 2 ^ free
-all_of w s {free} h l p = let e : free ≡ w = omega arith in rw e (omega (arith, rw e at p))
-
-pub not-all : (w s free : ℕ) → s + 2 ^ free < 2 ^ w → free < w
-not-all w s free p = go (dec_lt free w)
+-- without its zeros a number is odd
+odd-part : (n : ℕ) → 0 < n → n < 2 ^ 128 → (j : ℕ) × (n ≡ (j * 2 + 1) * 2 ^ count_trailing_zeros 128 n)
+odd-part n h b = (m / 2, z.multiple.equal ∙ ap (λ (k : ℕ). k * 2 ^ count_trailing_zeros 128 n) (by_parity (m % 2) refl))
   where
-    go : Dec (free < w) → free < w
-    go (yes h) = h
-    go (no h) = absurd (omega (arith, pow_mono {i = w} {j = free} (omega arith)))
+    z : Zeros 128 n (count_trailing_zeros 128 n)
+    z = zeros 128 n
+
+    m : ℕ
+    m = z.multiple.times
+
+    short : Dec (count_trailing_zeros 128 n < 128) → count_trailing_zeros 128 n < 128
+    short (yes l) = l
+    short (no l) =
+        let e : count_trailing_zeros 128 n ≡ 128 = omega (arith, z.short) in
+        absurd (omega (arith, rw e at z.multiple.equal))
+
+    by_parity : (r : ℕ) → m % 2 ≡ r → m ≡ m / 2 * 2 + 1
+    by_parity zero e =
+        let f : m ≡ m / 2 * 2 = omega arith in
+        let g : n ≡ m / 2 * 2 ^ suc (count_trailing_zeros 128 n) = z.multiple.equal ∙ ap (λ (k : ℕ). k * 2 ^ count_trailing_zeros 128 n) f ∙ rw (pow-suc 2 (count_trailing_zeros 128 n)) (omega arith) in
+        absurd (z.next (short (dec_lt _ 128)) (record { times = m / 2; equal = g }))
+    by_parity (suc r) e = omega arith
+
+-- by the number before it, where it is not 0, and else by all bits
+pub zeros-end : (n : ℕ) → n < 2 ^ 128 → suc (bit_or n ((n + 340282366920938463463374607431768211455) % 340282366920938463463374607431768211456)) ≡ n + 2 ^ count_trailing_zeros 128 n
+unfolding count_trailing_zeros
+zeros-end n b = go (dec_lt 0 n)
+  where
+    go : Dec (0 < n) → suc (bit_or n ((n + 340282366920938463463374607431768211455) % 340282366920938463463374607431768211456)) ≡ n + 2 ^ count_trailing_zeros 128 n
+    go (yes h) =
+        let o = odd-part n h b in
+        let z : ℕ = count_trailing_zeros 128 n in
+        let e : (n + 340282366920938463463374607431768211455) % 340282366920938463463374607431768211456 ≡ n - 1 = omega arith in
+        let p = pow_pos z in
+        ap (λ (k : ℕ). suc (bit_or n k)) e ∙ ap (λ (k : ℕ). suc (bit_or k (k - 1))) o.1 ∙ ap suc (set-zeros o.0 z) ∙ omega (arith, o.1)
+    go (no h) = let e : n ≡ 0 = omega arith in rw e refl

@@ -1,4 +1,2 @@
-pub mod Digits
-pub mod Tops
 pub mod Ends
 pub mod Walk

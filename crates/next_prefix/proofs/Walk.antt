@@ -1,17 +1,13 @@
 -- A walk over the prefixes of a range, from its start: the last step, and one more.
-use Prim.Native.Nat.{ℕ, suc, ◌+◌, ◌-◌, ◌*◌, ◌^◌, ◌≤◌, ◌<◌}
+use Prim.Native.Nat.{ℕ, suc, ◌+◌, ◌-◌, ◌^◌, ◌≤◌, ◌<◌}
 use mathlib.Core.Path.{◌≡◌, ap, ◌∙◌}
 use mathlib.Core.List.{List, [], ◌∷◌}
 use native.Mathlib.Omega.{arith}
-use lib.Arith.{digits_lt}
-use lib.Pow.{pow_pos}
+use native.Mathlib.Decide.{dec_lt}
+use lib.Pow.{pow_mono, pow_pos}
 use Rattle.cidr.specs.Prefixes.{Prefix, prefix, from-to, prefixes_of}
 use Rattle.cidr.specs.First.{Largest}
 use Rattle.cidr.proofs.Greedy.{first-prefix, no_more}
-
--- a number of two words
-pub wide : {h l : ℕ} → h < 18446744073709551616 → l < 18446744073709551616 → h * 18446744073709551616 + l < 2 ^ 128
-wide h l = digits_lt h l
 
 -- an end inside a range, and one after it
 pub ends_by : {r e n : ℕ} → suc r ≡ n → r ≤ e → n ≤ suc e
@@ -19,6 +15,13 @@ ends_by h l = omega arith
 
 pub ends-after : {r e n : ℕ} → suc r ≡ n → e ≤ r → suc e ≤ n
 ends-after h l = omega arith
+
+pub shorter : (w s : ℕ) {t : ℕ} → s + 2 ^ t < 2 ^ w → t < w
+shorter w s {t} p = go (dec_lt t w)
+  where
+    go : Dec (t < w) → t < w
+    go (yes h) = h
+    go (no h) = absurd (omega (arith, pow_mono {i = w} {j = t} (omega arith)))
 
 pub ends-inside : (w : ℕ) {s e t : ℕ} → e < 2 ^ w → Largest (from-to s e) t → s + 2 ^ t ≤ 2 ^ w
 ends-inside w below largest = omega (arith, largest.inside)

@@ -10,9 +10,9 @@ use native.Mathlib.Decide.{dec_lt}
 use borrow.Author.Tests.{le-leb, lt-leb, lt-ltb, le-ltb, ne_eqb}
 use lib.Dec.{ltb}
 use lib.ListN.{length}
+use Rattle.std.specs.Prelude.{Some}
 use Rattle.numeral.specs.Numeral.{digit_value, are_digits, digits_from, numeral_from, numeral, leading_zero, decimal, h16}
 use Rattle.numeral.specs.Digits.{digit_of, digits_before, numeral_text, decimal_text, hex_text}
-use Rattle.numeral.specs.declared.Number.TheVariants.{Value}
 use Rattle.numeral.proofs.Laws.{numeral-start}
 
 -- ---- one digit
@@ -186,15 +186,15 @@ module _ (base : ℕ) (low : 2 ≤ base) where
         rw w.shape (no_zero (suc m) w.first w.rest w.lead (omega arith))
 
     -- reading what was written
-    pub numeral-read : (max n : ℕ) → n ≤ max → numeral base max (numeral_text base n) ≡ Value n
+    pub numeral-read : (max n : ℕ) → n ≤ max → numeral base max (numeral_text base n) ≡ Some n
     unfolding numeral_from
     numeral-read max n h =
         sym (numeral-start base max (numeral_text base n) (λ e. omega (arith, text-some n))) ∙ rw (text-digits n, text-value n, le-leb n max h)
 
-pub decimal-read : (max n : ℕ) → n ≤ max → decimal max (decimal_text n) ≡ Value n
+pub decimal-read : (max n : ℕ) → n ≤ max → decimal max (decimal_text n) ≡ Some n
 unfolding decimal
 decimal-read max n h = rw (no_leading_zero 10 (omega arith) (omega arith) n) (numeral-read 10 (omega arith) (omega arith) max n h)
 
-pub h16-read : (n : ℕ) → n < 65536 → h16 (hex_text n) ≡ Value n
+pub h16-read : (n : ℕ) → n < 65536 → h16 (hex_text n) ≡ Some n
 unfolding h16
 h16-read n h = rw (le-leb (length (hex_text n)) 4 (text-few 16 (omega arith) n 3 (omega arith))) (numeral-read 16 (omega arith) (omega arith) 65535 n (omega arith))

@@ -10,12 +10,25 @@ use native.Mathlib.Numerals.{add-one}
 use lib.Dec.{leb, ltb, eqb}
 use lib.ListN.{length, get_or, drop, drop_of_length-le}
 use lib.Seq.{drop-cons}
+use Rattle.std.specs.Prelude.{Option, Some, None}
+use Rattle.std.specs.Char.{digit_value as std_value}
+use Rattle.std.proofs.lemmas.Bool.Decides.{nat_tests}
 use borrow.Author.Tests.{le-leb, lt-leb, lt-ltb, le-ltb, leb-true, eqb-true}
 use Rattle.octets.specs.Lists.{contains}
 use Rattle.octets.proofs.Connectives.{and_right, and-false}
 use Rattle.numeral.specs.Numeral.{digit_value, are_digits, digits_from, numeral_from, numeral, leading_zero, decimal, h16}
-use Rattle.numeral.specs.declared.Number.{Number}
-use Rattle.numeral.specs.declared.Number.TheVariants.{Value, Malformed}
+
+-- ---- the digits of a base up to 16 are those of std
+
+pub same_digit : (base c : ℕ) → base ≤ 16 → std_value c < base → digit_value c ≡ std_value c
+unfolding digit_value
+same_digit base c h k = grind (arith, nat_tests)
+
+pub other_byte : (base c : ℕ) → base ≤ 16 → (std_value c < base → ⊥) → base ≤ digit_value c
+unfolding digit_value
+other_byte base c h k = grind (arith, nat_tests)
+
+-- ---- a number that is read
 
 -- one digit more
 pub value-fits : (base max v d : ℕ) → base ≤ 16 → max < 2 ^ 32 → v ≤ max → d < 256 → v * base + d < 2 ^ 37
@@ -29,7 +42,7 @@ value_grows base v (c ∷ s) h =
 
 module _ (base max v : ℕ) (s : List ℕ) where
   -- a number above max
-  pub above-max : 1 ≤ base → max < v → numeral_from base max v s ≡ Malformed
+  pub above-max : 1 ≤ base → max < v → numeral_from base max v s ≡ None
   unfolding numeral_from
   above-max hb h =
       let g : max < digits_from base v s = omega (arith, value_grows base v s hb) in
@@ -43,12 +56,12 @@ module _ (base max v : ℕ) (s : List ℕ) where
     next_digit h d = rw (add-one, drop-cons s i 0, lt-ltb _ _ d)
 
     -- the next byte is none
-    pub no_digit : i < length s → base ≤ digit_value (get_or s i 0) → numeral_from base max v (drop i s) ≡ Malformed
+    pub no_digit : i < length s → base ≤ digit_value (get_or s i 0) → numeral_from base max v (drop i s) ≡ None
     unfolding numeral_from are_digits
     no_digit h d = rw (drop-cons s i 0, le-ltb _ _ d)
 
 module _ (base max : ℕ) where
-  pub numeral-empty : (s : List ℕ) → length s ≡ 0 → numeral base max s ≡ Malformed
+  pub numeral-empty : (s : List ℕ) → length s ≡ 0 → numeral base max s ≡ None
   unfolding numeral
   numeral-empty [] e = refl
   numeral-empty (c ∷ s) e = let z : ⊥ = omega arith in absurd z
@@ -59,7 +72,7 @@ module _ (base max : ℕ) where
   numeral-start (c ∷ s) h = refl
 
   -- the end, or a number that was read to its end
-  pub numeral-end : (v i : ℕ) (s : List ℕ) → length s ≤ i → v ≤ max → numeral_from base max v (drop i s) ≡ Value v
+  pub numeral-end : (v i : ℕ) (s : List ℕ) → length s ≤ i → v ≤ max → numeral_from base max v (drop i s) ≡ Some v
   unfolding numeral_from are_digits digits_from
   numeral-end v i s h k = rw (drop_of_length-le s h, le-leb _ _ k)
 
@@ -75,12 +88,12 @@ zero-first [] h = let z : ⊥ = omega arith in absurd z
 zero-first (c ∷ []) h = let z : ⊥ = omega arith in absurd z
 zero-first (c ∷ d ∷ s) h = refl
 
-cond_value : (b : Bool) (x v : ℕ) → cond b (Value x) Malformed ≡ Value v → (b ≡ true) × (x ≡ v)
+cond_value : (b : Bool) (x v : ℕ) → cond b (Some x) None ≡ Some v → (b ≡ true) × (x ≡ v)
 cond_value true x v e = (refl, cc)
 cond_value false x v e = let z : ◌≡◌ {A = ℕ} 0 1 = cc in let a : ⊥ = omega arith in absurd a
 
 -- a number that was read is at most max
-pub numeral_le : (base max : ℕ) (s : List ℕ) (v : ℕ) → numeral base max s ≡ Value v → v ≤ max
+pub numeral_le : (base max : ℕ) (s : List ℕ) (v : ℕ) → numeral base max s ≡ Some v → v ≤ max
 unfolding numeral numeral_from
 numeral_le base max [] v e = absurd (false≢true (cond_value false 0 v e).0)
 numeral_le base max (c ∷ s) v e =
@@ -89,19 +102,19 @@ numeral_le base max (c ∷ s) v e =
     let r = cond_value (d && leb x max) x v e in
     omega (arith, r.1, leb-true x max (and_right d (leb x max) r.0))
 
-well_formed_lem : (b : Bool) (n : Number) (v : ℕ) → cond b n Malformed ≡ Value v → n ≡ Value v
+well_formed_lem : (b : Bool) (n : Option ℕ) (v : ℕ) → cond b n None ≡ Some v → n ≡ Some v
 well_formed_lem true n v e = e
 well_formed_lem false n v e = cc
 
-not-malformed : (b : Bool) (n : Number) (v : ℕ) → cond b Malformed n ≡ Value v → n ≡ Value v
+not-malformed : (b : Bool) (n : Option ℕ) (v : ℕ) → cond b None n ≡ Some v → n ≡ Some v
 not-malformed true n v e = cc
 not-malformed false n v e = e
 
-pub decimal_le : (max : ℕ) (s : List ℕ) (v : ℕ) → decimal max s ≡ Value v → v ≤ max
+pub decimal_le : (max : ℕ) (s : List ℕ) (v : ℕ) → decimal max s ≡ Some v → v ≤ max
 unfolding decimal
 decimal_le max s v e = numeral_le 10 max s v (not-malformed (leading_zero s) (numeral 10 max s) v e)
 
-pub h16_le : (s : List ℕ) (v : ℕ) → h16 s ≡ Value v → v ≤ 65535
+pub h16_le : (s : List ℕ) (v : ℕ) → h16 s ≡ Some v → v ≤ 65535
 unfolding h16
 h16_le s v e = numeral_le 16 65535 s v (well_formed_lem (leb (length s) 4) (numeral 16 65535 s) v e)
 
@@ -125,20 +138,20 @@ module _ (base x : ℕ) (none : base ≤ digit_value x) where
       by-test true q = absurd (false≢true (sym (digits-not s q) ∙ e))
       by-test false q = refl
 
-  pub numeral-not : (max : ℕ) (s : List ℕ) → contains x s ≡ true → numeral base max s ≡ Malformed
+  pub numeral-not : (max : ℕ) (s : List ℕ) → contains x s ≡ true → numeral base max s ≡ None
   unfolding numeral numeral_from
   numeral-not max [] e = refl
   numeral-not max (c ∷ s) e = rw (digits-not (c ∷ s) e)
 
-either_way : (b : Bool) → cond b Malformed Malformed ≡ Malformed
+either_way : (b : Bool) → cond {A = Option ℕ} b None None ≡ None
 either_way true = refl
 either_way false = refl
 
 module _ (x : ℕ) (s : List ℕ) (has : contains x s ≡ true) where
-  pub decimal-not : (max : ℕ) → 10 ≤ digit_value x → decimal max s ≡ Malformed
+  pub decimal-not : (max : ℕ) → 10 ≤ digit_value x → decimal max s ≡ None
   unfolding decimal
   decimal-not max h = rw (numeral-not 10 x h max s has) (either_way (leading_zero s))
 
-  pub h16-not : 16 ≤ digit_value x → h16 s ≡ Malformed
+  pub h16-not : 16 ≤ digit_value x → h16 s ≡ None
   unfolding h16
   h16-not h = rw (numeral-not 16 x h 65535 s has) (either_way (leb (length s) 4))

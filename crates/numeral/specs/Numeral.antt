@@ -1,9 +1,7 @@
 -- S8.1, S8.2: numbers written in digits: the value of a digit, and what a text of digits stands for.
-use Rattle.std.specs.Prelude.{ℕ, ◌+◌, ◌-◌, ◌*◌, List, [], ◌∷◌, Bool, true, false, cond, ◌&&◌, length, ltb, leb, eqb}
+use Rattle.std.specs.Prelude.{ℕ, ◌+◌, ◌-◌, ◌*◌, List, [], ◌∷◌, Option, Some, None, Bool, true, false, cond, ◌&&◌, length, ltb, leb, eqb}
 use Prim.Native.Char.{code}
 use Rattle.octets.specs.Lists.{within}
-use Rattle.numeral.specs.declared.Number.{Number}
-use Rattle.numeral.specs.declared.Number.TheVariants.{Value, Malformed}
 
 -- the value of the digit c, 'A' and 'a' being 10; 16 where c is none
 unfoldable pub digit_value : ℕ → ℕ
@@ -23,12 +21,12 @@ digits_from base v [] = v
 digits_from base v (c ∷ s) = digits_from base (v * base + digit_value c) s
 
 -- the number that the digits s continue, v being the number before them, if it is at most max
-unfoldable pub numeral_from : ℕ → ℕ → ℕ → List ℕ → Number
-numeral_from base max v s = cond (are_digits base s && leb (digits_from base v s) max) (Value (digits_from base v s)) Malformed
+unfoldable pub numeral_from : ℕ → ℕ → ℕ → List ℕ → Option ℕ
+numeral_from base max v s = cond (are_digits base s && leb (digits_from base v s) max) (Some (digits_from base v s)) None
 
 -- one or more digits of the base, whose value is at most max
-unfoldable pub numeral : ℕ → ℕ → List ℕ → Number
-numeral base max [] = Malformed
+unfoldable pub numeral : ℕ → ℕ → List ℕ → Option ℕ
+numeral base max [] = None
 numeral base max (c ∷ s) = numeral_from base max 0 (c ∷ s)
 
 -- a '0' with something after it
@@ -38,9 +36,9 @@ leading_zero (c ∷ []) = false
 leading_zero (c ∷ d ∷ s) = eqb c (code "0")
 
 -- a decimal number from 0 to max, without leading zeros
-unfoldable pub decimal : ℕ → List ℕ → Number
-decimal max s = cond (leading_zero s) Malformed (numeral 10 max s)
+unfoldable pub decimal : ℕ → List ℕ → Option ℕ
+decimal max s = cond (leading_zero s) None (numeral 10 max s)
 
 -- h16 of RFC 3986: one to four hex digits
-unfoldable pub h16 : List ℕ → Number
-h16 s = cond (leb (length s) 4) (numeral 16 65535 s) Malformed
+unfoldable pub h16 : List ℕ → Option ℕ
+h16 s = cond (leb (length s) 4) (numeral 16 65535 s) None

@@ -72,6 +72,13 @@ pub four_bytes : (s : List ℕ) (at : ℕ) → at + 4 ≤ length s
     → number_in s at 4 ≡ ((get_or s at 0 * 256 + get_or s (at + 1) 0) * 256 + get_or s (at + 2) 0) * 256 + get_or s (at + 3) 0
 four_bytes s at h = rw (more s at 3 h, more s at 2 (omega arith), more s at 1 (omega arith), one_byte_lem s at (omega arith))
 
+pub eight_bytes : (s : List ℕ) (at : ℕ) → at + 8 ≤ length s
+    → number_in s at 8
+    ≡ ((((((get_or s at 0 * 256 + get_or s (at + 1) 0) * 256 + get_or s (at + 2) 0) * 256 + get_or s (at + 3) 0) * 256 + get_or s (at + 4) 0) * 256
+    + get_or s (at + 5) 0) * 256 + get_or s (at + 6) 0) * 256 + get_or s (at + 7) 0
+eight_bytes s at h =
+    rw (more s at 7 h, more s at 6 (omega arith), more s at 5 (omega arith), more s at 4 (omega arith), four_bytes s at (omega arith))
+
 -- the whole of a list
 pub number-whole : (s : List ℕ) (n : ℕ) → length s ≡ n → number_in s 0 n ≡ value s
 number-whole s n e = rw (← e, zero-add (length s), take-length s)

@@ -4,7 +4,6 @@ pub mod Bytes
 pub mod Order
 pub mod Comparing
 pub mod Digits
-pub mod Pairs
 pub mod Parts
 pub mod Below
 pub mod Found
@@ -12,3 +11,4 @@ pub mod Scans
 pub mod Pieces
 pub mod Cuts
 pub mod Fronts
+pub mod BigEndian

@@ -7,10 +7,11 @@ use Prim.Native.Nat.{ℕ, ◌<◌}
 use native.Mathlib.Omega.{arith}
 use borrow.Author.Tests.{ltb-true, ltb-false, lt-ltb, le-ltb}
 use lib.Dec.{ltb}
+use Rattle.std.specs.Ordering.{is_le, is_ge}
+use Rattle.std.specs.declared.cmp.Ordering.{Ordering}
+use Rattle.std.specs.declared.cmp.Ordering.TheVariants.{Less, Equal, Greater}
 use Rattle.octets.specs.Number.{at_most}
 use Rattle.octets.specs.Order.{compared}
-use Rattle.octets.specs.declared.Ordering.{Ordering}
-use Rattle.octets.specs.declared.Ordering.TheVariants.{Less, Equal, Greater}
 
 -- the first bytes decide, or they are the same and the rest does
 at-most-cases : (x y : ℕ) (xs ys : List ℕ) → at_most (x ∷ xs) (y ∷ ys) ≡ true → (x < y) ⊎ ((x ≡ y) × (at_most xs ys ≡ true))
@@ -106,31 +107,21 @@ module _ (a b : List ℕ) where
   is_same c d e f = rw (e, f)
 
 -- what it tells: whether the first is at most the second, and the second at most the first
-abbrev pub first_at_most : Ordering → Bool
-first_at_most Less = true
-first_at_most Equal = true
-first_at_most Greater = false
-
-abbrev pub second_at_most : Ordering → Bool
-second_at_most Less = false
-second_at_most Equal = true
-second_at_most Greater = true
-
 module _ (a b : List ℕ) where
-  pub told-first : {o : Ordering} → compared a b ≡ o → at_most a b ≡ first_at_most o
+  pub told-first : {o : Ordering} → compared a b ≡ o → at_most a b ≡ is_le o
   unfolding compared
-  told-first e = by_tests (at_most a b) (at_most b a) ∙ ap first_at_most e
+  told-first e = by_tests (at_most a b) (at_most b a) ∙ ap is_le e
     where
-      by_tests : (t u : Bool) → t ≡ first_at_most (cond t (cond u Equal Less) Greater)
+      by_tests : (t u : Bool) → t ≡ is_le (cond t (cond u Equal Less) Greater)
       by_tests true true = refl
       by_tests true false = refl
       by_tests false u = refl
 
-  pub told-second : {o : Ordering} → compared a b ≡ o → at_most b a ≡ second_at_most o
+  pub told-second : {o : Ordering} → compared a b ≡ o → at_most b a ≡ is_ge o
   unfolding compared
-  told-second e = by_tests (at_most a b) (at_most b a) (at-most_total a b) ∙ ap second_at_most e
+  told-second e = by_tests (at_most a b) (at_most b a) (at-most_total a b) ∙ ap is_ge e
     where
-      by_tests : (t u : Bool) → (t ≡ false → u ≡ true) → u ≡ second_at_most (cond t (cond u Equal Less) Greater)
+      by_tests : (t u : Bool) → (t ≡ false → u ≡ true) → u ≡ is_ge (cond t (cond u Equal Less) Greater)
       by_tests true true h = refl
       by_tests true false h = refl
       by_tests false u h = h refl

@@ -3,15 +3,17 @@ use mathlib.Core.Path.{◌≡◌, refl, sym, ◌∙◌}
 use mathlib.Core.Bool.{Bool, true, false, cond}
 use mathlib.Core.List.{List, [], ◌∷◌, ◌++◌}
 use Prim.Native.Nat.{ℕ, ◌+◌, ◌<◌, ◌≤◌}
-use borrow.Author.Tests.{ltb-true, le-leb, lt-leb}
+use borrow.Author.Tests.{ltb-true, le-leb, lt-leb, lt-ltb, le-ltb, ne_eqb}
+use native.Mathlib.Decide.{dec_lt}
 use native.Mathlib.Omega.{arith}
 use native.Mathlib.Nat.{le_of_lt}
 use lib.Dec.{leb, ltb}
 use lib.ListN.{length, take, drop, take-append-drop}
 use lib.Seq.{slice, take-add, drop-drop}
+use Rattle.std.specs.Ordering.{nat_cmp}
+use Rattle.std.specs.declared.cmp.Ordering.TheVariants.{Less, Greater}
 use Rattle.octets.specs.Number.{value, at_most, Bytes, order}
 use Rattle.octets.specs.Order.{compared}
-use Rattle.octets.specs.declared.Ordering.TheVariants.{Less, Greater}
 use Rattle.octets.specs.Positions.{number_in}
 use Rattle.octets.proofs.Order.{at-most-both, is-less, is_greater, is_same}
 use Rattle.octets.proofs.Digits.{part-is, part_length, part_bytes}
@@ -72,11 +74,20 @@ module _ (x y : List ℕ) (b : Bytes x) (d : Bytes y) (i k : ℕ) (p : i + k ≤
 
 -- as one value
 module _ (x y : List ℕ) (b : Bytes x) (d : Bytes y) (i k : ℕ) (p : i + k ≤ length x) (q : i + k ≤ length y) where
-  pub word-less : number_in x i k < number_in y i k → Less ≡ compared (drop i x) (drop i y)
-  word-less h = sym (is-less _ _ (below x y b d i k p q h) (above y x d b i k q p h))
+  word-less : number_in x i k < number_in y i k → compared (drop i x) (drop i y) ≡ Less
+  word-less h = is-less _ _ (below x y b d i k p q h) (above y x d b i k q p h)
 
-  pub word-greater : number_in y i k < number_in x i k → Greater ≡ compared (drop i x) (drop i y)
-  word-greater h = sym (is_greater _ _ (above x y b d i k p q h))
+  word-greater : number_in y i k < number_in x i k → compared (drop i x) (drop i y) ≡ Greater
+  word-greater h = is_greater _ _ (above x y b d i k p q h)
 
-  pub word-equal : number_in x i k ≤ number_in y i k → number_in y i k ≤ number_in x i k → compared (drop (i + k) x) (drop (i + k) y) ≡ compared (drop i x) (drop i y)
-  word-equal h l = is_same _ _ _ _ (onward x y b d i k p q h l) (onward y x d b i k q p l h)
+  pub words-differ : (number_in x i k ≡ number_in y i k → ⊥) → nat_cmp (number_in x i k) (number_in y i k) ≡ compared (drop i x) (drop i y)
+  words-differ n = by_order (dec_lt (number_in x i k) (number_in y i k))
+    where
+      by_order : Dec (number_in x i k < number_in y i k) → nat_cmp (number_in x i k) (number_in y i k) ≡ compared (drop i x) (drop i y)
+      by_order (yes h) = rw (lt-ltb _ _ h, word-less h)
+      by_order (no h) =
+          let g : number_in y i k < number_in x i k = omega arith in
+          rw (le-ltb (number_in x i k) (number_in y i k) (omega arith), ne_eqb (number_in x i k) (number_in y i k) n, word-greater g)
+
+  pub words_same : number_in x i k ≡ number_in y i k → compared (drop (i + k) x) (drop (i + k) y) ≡ compared (drop i x) (drop i y)
+  words_same e = is_same _ _ _ _ (onward x y b d i k p q (omega arith) (omega arith)) (onward y x d b i k q p (omega arith) (omega arith))

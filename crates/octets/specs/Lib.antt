@@ -1,7 +1,6 @@
 pub mod Lists
 pub mod Number
 pub mod Order
-pub mod Words
 pub mod Positions
 pub mod Split
 pub mod Scan

@@ -1,6 +1,5 @@
 -- Lists, Boolean tests on their elements, and answers that may be missing.
-use Rattle.std.specs.Prelude.{ℕ, Bool, true, false, cond, ◌&&◌, ◌||◌, leb, eqb}
-use Rattle.std.proofs.Math.Option.{Option, none, some}
+use Rattle.std.specs.Prelude.{ℕ, Bool, true, false, cond, ◌&&◌, ◌||◌, leb, eqb, Option, None, Some}
 use mathlib.Core.List.{List, [], ◌∷◌, Memᴰ}
 
 -- low ≤ n ≤ high
@@ -38,4 +37,4 @@ contains n (m ∷ s) = eqb m n || contains n s
 
 -- An answer of the code: the value where ok says that there is one.
 unfoldable pub found : {A : Type 0} → Bool → A → Option A
-found ok a = cond ok (some a) none
+found ok a = cond ok (Some a) None

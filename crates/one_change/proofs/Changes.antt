@@ -8,6 +8,7 @@ use borrow.Author.Tests.{le-leb, lt-leb, leb-true, eq-eqb, ne_eqb, eqb-true, eqb
 use lib.Dec.{leb, eqb}
 use lib.ListN.{length, get_or, take, drop, length-take, length-drop}
 use lib.Seq.{slice, take_all, slice-cons, length-slice}
+use Rattle.std.specs.Prelude.{Option, Some, None}
 use Rattle.octets.proofs.Connectives.{and_right}
 use Rattle.registry.specs.Tags.{is_known, width_of}
 use Rattle.address.specs.Ranges.{well_formed}
@@ -15,17 +16,17 @@ use Rattle.octets.specs.Positions.{number_in}
 use Rattle.fields.specs.Field.{Head, field, short, head_of, size_of}
 use Rattle.fields.specs.Positions.{field_at}
 use Rattle.fields.specs.declared.Field.{Field}
-use Rattle.fields.specs.declared.Field.TheVariants.{Whole, Short}
 use Rattle.texts.specs.Texts.{good_text, good_host}
 use Rattle.records.specs.Record.{Record, good_name}
 use Rattle.records.specs.Judge.{Judged, bad, good, judge}
 use Rattle.records.proofs.Shapes.{no_block, a_block}
 use Rattle.image.specs.Image.{sound, image_from}
 use Rattle.image.specs.Part.{records_of}
-use Rattle.image.specs.Checking.{verdict_of}
-use Rattle.image.specs.declared.Verdict.{Verdict}
-use Rattle.image.specs.declared.Verdict.TheVariants.{Sound, Defective}
-use Rattle.image.proofs.Soundness.{is-sound, counted}
+use Rattle.image.specs.Checking.{verdict_of, numbers_in}
+use Rattle.registry.specs.declared.Flaw.{Flaw}
+use Rattle.std.specs.Prelude.{Result, Ok, Err}
+use Rattle.std.specs.Result.{result_eq}
+use Rattle.image.proofs.Soundness.{is-sound, counted, verdict_sound}
 use Rattle.image.proofs.Walk.{from_end}
 use Rattle.rows.specs.Entry.{entries_of, row_of}
 use Rattle.rows.specs.Good.{AllGood, good-cons}
@@ -35,10 +36,16 @@ use Rattle.changes.specs.Change as Changes
 use Rattle.changes.specs.Change.{keyed, good_key, add_judged, add_of, change_of}
 use Rattle.merged.specs.Held.{parsed_from, entry_of}
 use Rattle.one_change.specs.Read.{Addition, Removal, Stated, ChangeAt}
-use Rattle.one_change.specs.declared.Change.TheVariants.{Add, Remove, Malformed}
+use Rattle.one_change.specs.declared.Change.TheVariants.{Add, Remove}
+use Rattle.std.specs.Prelude.{None}
+use Rattle.std.specs.Bool.{then_some}
 use Rattle.merged.proofs.Fields.{bytes_inside, head-short, head-whole}
 
 -- Additions
+
+only-one : (v : Result ℕ Flaw) → numbers_in v ≡ Ok 1 → v ≡ Ok 1
+only-one (Ok count) e = cc
+only-one (Err flaw) e = let z : ◌≡◌ {A = ℕ} 0 1 = cc in absurd (omega arith)
 
 no_true : {A : Type 0} → false ≡ true → A
 no_true e = absurd (false≢true e)
@@ -59,36 +66,35 @@ module _ (s : List ℕ) where
       let all : take (size_of s) s ≡ s = sym (append-nil (take (size_of s) s)) ∙ e in
       by-good g.tag g.contents r (rw all at g.head) g.alone
 
-  module _ (v : Verdict) (e : v ≡ verdict_of (image_from 4096 [] s)) where
-    add-one : v ≡ Sound 1 → Addition s true
+  module _ (v : Result ℕ Flaw) (e : numbers_in v ≡ verdict_of (image_from 4096 [] s)) where
+    add-one : v ≡ Ok 1 → Addition s true
     add-one f =
         let i = image_from 4096 [] s in
-        let w = reads 4096 [] (records_of i) s (is-sound i 1 (sym e ∙ f)) in
-        by-records w.later (sym (ap length w.all) ∙ counted i 1 (sym e ∙ f)) w.stand w.row
+        let w = reads 4096 [] (records_of i) s (is-sound i 1 (verdict_sound e f)) in
+        by-records w.later (sym (ap length w.all) ∙ counted i 1 (verdict_sound e f)) w.stand w.row
 
-    add_none : (v ≡ Sound 1 → ⊥) → Addition s false
+    add_none : (v ≡ Ok 1 → ⊥) → Addition s false
     add_none n = record { is = by-head (head_of s) refl; whole = no_true }
       where
         by-judged : (tag : ℕ) (contents : List ℕ) → head_of s ≡ field tag contents [] → (j : Judged) → judge [] tag contents ≡ j → add_judged s j ≡ Changes.malformed
         by-judged tag contents h (bad d) k = refl
         by-judged tag contents h (good r) k =
             let x : image_from 4096 [] s ≡ sound (r ∷ []) = image-step [] tag contents [] 4095 s h ∙ rw k (from_end (r ∷ []) 4095) in
-            absurd (n (e ∙ ap verdict_of x))
+            absurd (n (only-one v (e ∙ ap verdict_of x)))
 
         by-head : (h : Head) → head_of s ≡ h → add_of s h ≡ Changes.malformed
         by-head short x = refl
         by-head (field tag contents (b ∷ rest)) x = refl
         by-head (field tag contents []) x = by-judged tag contents x (judge [] tag contents) refl
 
-    pub add-counted : (count : ℕ) → v ≡ Sound count → Addition s (eqb count 1)
-    add-counted count f = by_count (eqb count 1) refl
-      where
-        by_count : (t : Bool) → eqb count 1 ≡ t → Addition s t
-        by_count true x = add-one (f ∙ ap Sound (eqb-true count 1 x))
-        by_count false x = add_none (λ z. let k : count ≡ 1 = cc in eqb-false count 1 x k)
-
-    pub add-defective : (defect stands_at : ℕ) → v ≡ Defective defect stands_at → Addition s false
-    add-defective defect stands_at f = add_none (λ z. let k : ◌≡◌ {A = ℕ} 0 1 = cc in omega arith)
+  -- the comparison of the code
+  pub add_judged_one : (same : Flaw → Flaw → Bool) (v : Result ℕ Flaw) → numbers_in v ≡ verdict_of (image_from 4096 [] s) → Addition s (result_eq eqb same v (Ok 1))
+  add_judged_one same (Ok count) e = by_count (eqb count 1) refl
+    where
+      by_count : (t : Bool) → eqb count 1 ≡ t → Addition s t
+      by_count true x = add-one (Ok count) e (ap (λ (n : ℕ). Ok n) (eqb-true count 1 x))
+      by_count false x = add_none (Ok count) e (λ z. let k : count ≡ 1 = cc in eqb-false count 1 x k)
+  add_judged_one same (Err flaw) e = add_none (Err flaw) e (λ z. let k : ◌≡◌ {A = ℕ} 0 1 = cc in omega arith)
 
 -- Removals
 
@@ -154,48 +160,44 @@ module _ (tag : ℕ) (key : List ℕ) where
 pub part-short : (s : List ℕ) (a n : ℕ) → length s ≤ most_changes → length (take n (drop a s)) ≤ 262144
 part-short s a n h = omega (arith, length-take n (drop a s), length-drop a s)
 
-module _ (s : List ℕ) (at : ℕ) (l : at ≤ length s) (f : Field) (e : f ≡ field_at s at (length s)) where
-  pub change-short : f ≡ Short → ChangeAt s at Malformed
+module _ (s : List ℕ) (at : ℕ) (l : at ≤ length s) (f : Option Field) (e : f ≡ field_at s at (length s)) where
+  pub change-short : f ≡ None → ChangeAt s at None
   change-short g = rw (head-short s at f e l g)
 
-  module _ (tag a b : ℕ) (g : f ≡ Whole tag a b) where
-    stated : (change : Changes.Change) → change_of tag (slice a b s) ≡ change → Stated s at a b change
-    stated change x =
-        let i = bytes_inside s at f e tag a b g in
-        record { tag = tag; head = head-whole s at f e tag a b g; is = x; after = i.after; forward = i.forward; within = i.within }
+  module _ (x : Field) (g : f ≡ Some x) where
+    stated : (change : Changes.Change) → change_of x.tag (slice x.start x.end s) ≡ change → Stated s at x.start x.end change
+    stated change y =
+        let i = bytes_inside s at f e x g in
+        record { tag = x.tag; head = head-whole s at f e x g; is = y; after = i.after; forward = i.forward; within = i.within }
 
-    malformed-is : change_of tag (slice a b s) ≡ Changes.malformed → ChangeAt s at Malformed
-    malformed-is x = rw (head-whole s at f e tag a b g) x
+    malformed-is : change_of x.tag (slice x.start x.end s) ≡ Changes.malformed → ChangeAt s at None
+    malformed-is y = rw (head-whole s at f e x g) y
 
-    module _ (z : tag ≡ 48) (t : Bool) (r : Addition (slice a b s) t) where
-      adds : change_of tag (slice a b s) ≡ cond t (Changes.add (entry_of (slice a b s))) Changes.malformed
+    pub change-other : (x.tag ≡ 48 → ⊥) → (x.tag ≡ 49 → ⊥) → ChangeAt s at None
+    unfolding change_of
+    change-other n m = malformed-is (rw (ne_eqb x.tag 48 n, ne_eqb x.tag 49 m))
+
+    module _ (z : x.tag ≡ 48) where
+      adds : (t : Bool) → Addition (slice x.start x.end s) t → change_of x.tag (slice x.start x.end s) ≡ cond t (Changes.add (entry_of (slice x.start x.end s))) Changes.malformed
       unfolding change_of
-      adds = rw (eq-eqb tag 48 z) r.is
+      adds t r = rw (eq-eqb x.tag 48 z) r.is
 
-      pub change-add : t ≡ true → ChangeAt s at (Add a b)
-      change-add y = (stated _ (rw y at adds), r.whole y)
+      pub change-add : (t : Bool) → Addition (slice x.start x.end s) t → ChangeAt s at (then_some t (Add x.start x.end))
+      change-add true r = (stated _ (adds true r), r.whole refl)
+      change-add false r = malformed-is (adds false r)
 
-      pub change-no_record : t ≡ false → ChangeAt s at Malformed
-      change-no_record y = malformed-is (rw y at adds)
-
-    module _ (n : tag ≡ 48 → ⊥) where
-      pub change-other : (tag ≡ 49 → ⊥) → ChangeAt s at Malformed
+    module _ (z : x.tag ≡ 49) where
+      removes : (t : Bool) → Removal (slice x.start x.end s) t
+          → change_of x.tag (slice x.start x.end s) ≡ cond t (Changes.remove (keyed (get_or (slice x.start x.end s) 0 0) (drop 1 (slice x.start x.end s)))) Changes.malformed
       unfolding change_of
-      change-other m = malformed-is (rw (ne_eqb tag 48 n, ne_eqb tag 49 m))
+      removes t r = let n : x.tag ≡ 48 → ⊥ = λ y. absurd (omega arith) in rw (ne_eqb x.tag 48 n, eq-eqb x.tag 49 z) r.is
 
-      module _ (z : tag ≡ 49) (t : Bool) (r : Removal (slice a b s) t) where
-        removes : change_of tag (slice a b s) ≡ cond t (Changes.remove (keyed (get_or (slice a b s) 0 0) (drop 1 (slice a b s)))) Changes.malformed
-        unfolding change_of
-        removes = rw (ne_eqb tag 48 n, eq-eqb tag 49 z) r.is
-
-        pub change-no-key : t ≡ false → ChangeAt s at Malformed
-        change-no-key y = malformed-is (rw y at removes)
-
-        pub change-remove : t ≡ true → ChangeAt s at (Remove a b)
-        change-remove y =
-            let i = bytes_inside s at f e tag a b g in
-            let some : a < b = omega (arith, r.some-tag y, length-slice a b s i.within, i.forward) in
-            let c : slice a b s ≡ get_or s a 0 ∷ slice (suc a) b s = slice-cons a b s 0 some i.within in
-            let d : suc a ≡ a + 1 = omega arith in
-            let q : keyed (get_or (slice a b s) 0 0) (drop 1 (slice a b s)) ≡ keyed (get_or s a 0) (slice (a + 1) b s) = rw (c, d) in
-            (stated _ ((rw y at removes) ∙ ap Changes.remove q), some, rw (c, d) at (r.key y))
+      pub change-remove : (t : Bool) → Removal (slice x.start x.end s) t → ChangeAt s at (then_some t (Remove x.start x.end))
+      change-remove false r = malformed-is (removes false r)
+      change-remove true r =
+          let i = bytes_inside s at f e x g in
+          let some : x.start < x.end = omega (arith, r.some-tag refl, length-slice x.start x.end s i.within, i.forward) in
+          let c : slice x.start x.end s ≡ get_or s x.start 0 ∷ slice (suc x.start) x.end s = slice-cons x.start x.end s 0 some i.within in
+          let d : suc x.start ≡ x.start + 1 = omega arith in
+          let q : keyed (get_or (slice x.start x.end s) 0 0) (drop 1 (slice x.start x.end s)) ≡ keyed (get_or s x.start 0) (slice (x.start + 1) x.end s) = rw (c, d) in
+          (stated _ (removes true r ∙ ap Changes.remove q), some, rw (c, d) at (r.key refl))

@@ -1,5 +1,5 @@
 -- Serves contracts and proofs. A change of a file as the code reads it.
-use Rattle.std.specs.Prelude.{◌≡◌, Bool, true, cond, List, ℕ, ◌+◌, ◌≤◌, ◌<◌, length, get_or, drop}
+use Rattle.std.specs.Prelude.{◌≡◌, Bool, true, cond, List, ℕ, ◌+◌, ◌≤◌, ◌<◌, length, get_or, drop, Option, Some, None}
 use Rattle.std.proofs.Math.Seq.{slice}
 use Rattle.fields.specs.Field.{Head, field, short, head_of}
 use Rattle.changes.specs.Change as Changes
@@ -7,7 +7,7 @@ use Rattle.changes.specs.Change.{keyed, add_of, remove_of, change_of}
 use Rattle.merged.specs.Held.{entry_of, Recorded}
 use Rattle.by_key.specs.Key.{Key}
 use Rattle.one_change.specs.declared.Change.{Change}
-use Rattle.one_change.specs.declared.Change.TheVariants.{Add, Remove, Malformed}
+use Rattle.one_change.specs.declared.Change.TheVariants.{Add, Remove}
 
 -- the contents of a field 30, and of a field 31
 pub record Addition (s : List ℕ) (ok : Bool) : Type 0 where
@@ -40,8 +40,11 @@ adding s start end = Changes.add (entry_of (slice start end s))
 abbrev pub removing : List ℕ → ℕ → ℕ → Changes.Change
 removing s start end = Changes.remove (keyed (get_or s start 0) (slice (start + 1) end s))
 
-abbrev pub ChangeAt : List ℕ → ℕ → Change → Type 0
-ChangeAt s at (Add start end) = Stated s at start end (adding s start end) × Recorded (slice start end s)
-ChangeAt s at (Remove start end) =
+abbrev pub ChangeIs : List ℕ → ℕ → Change → Type 0
+ChangeIs s at (Add start end) = Stated s at start end (adding s start end) × Recorded (slice start end s)
+ChangeIs s at (Remove start end) =
     Stated s at start end (removing s start end) × (start < end) × Key (get_or s start 0) (slice (start + 1) end s)
-ChangeAt s at Malformed = change_in (head_of (drop at s)) ≡ Changes.malformed
+
+abbrev pub ChangeAt : List ℕ → ℕ → Option Change → Type 0
+ChangeAt s at (Some change) = ChangeIs s at change
+ChangeAt s at None = change_in (head_of (drop at s)) ≡ Changes.malformed

@@ -9,7 +9,7 @@ ghost use Rattle.changes.specs.Change.{good_key};
 ghost use Rattle.one_change.specs.Read.{Addition, Removal, ChangeAt};
 
 use fields::{Field, step_at};
-use image::{Verdict, index_from};
+use image::index_from;
 use registry::{AS_BLOCK, ENTITY, IPV4_NETWORK, PerRecord, width_of};
 use words::numbers_at_most;
 
@@ -20,10 +20,7 @@ fn good_record(r: &[u8], starts: &mut PerRecord) -> bool
     ensures judged { Addition r.now result }
     ensures full { length starts.new ≡ most_records }
 {
-    match index_from(r, 0, starts) {
-        Verdict::Sound(count) => count == 1,
-        Verdict::Defective(_, _) => false,
-    }
+    index_from(r, 0, starts) == Ok(1)
 }
 
 // Whether the key is of the tag's form: range, name or handle.
@@ -48,46 +45,43 @@ fn good_key(tag: u8, key: &[u8]) -> bool
 pub fn good_removal(r: &[u8]) -> bool
     ensures { Removal r.now result }
 {
-    if r.len() == 0 {
+    let [tag, key @ ..] = r else {
+        return false;
+    };
+    if *tag < IPV4_NETWORK {
         return false;
     }
-    let tag = r[0];
-    if tag < IPV4_NETWORK {
+    if ENTITY < *tag {
         return false;
     }
-    if ENTITY < tag {
-        return false;
-    }
-    good_key(tag, &r[1..])
+    good_key(*tag, key)
 }
 
-// A change, whose contents go from start up to end.
+// A change: its contents go from start up to end.
 #[derive(Clone, Copy)]
 pub enum Change {
     Add { start: usize, end: usize },
     Remove { start: usize, end: usize },
-    Malformed,
 }
 
-pub fn change_at(changes: &[u8], at: usize, starts: &mut PerRecord) -> Change
+// The tags of a change: a record to add, the key of one to remove.
+const ADDITION: u8 = 0x30;
+
+const REMOVAL: u8 = 0x31;
+
+// The change at a position of the file; nothing if it is malformed.
+pub fn change_at(changes: &[u8], at: usize, starts: &mut PerRecord) -> Option<Change>
     requires { (at ≤ length changes.now) × (length changes.now ≤ most_changes) × (length starts.old ≡ most_records) }
     ensures read { ChangeAt changes.now at result }
     ensures full { length starts.new ≡ most_records }
 {
-    let Field::Whole { tag, start, end } = step_at(changes, at) else {
-        return Change::Malformed;
+    let Some(Field { tag, start, end }) = step_at(changes, at) else {
+        return None;
     };
-    if tag == 0x30 {
-        if good_record(&changes[start..end], starts) {
-            return Change::Add { start, end };
-        }
-        return Change::Malformed;
+    let contents = &changes[start..end];
+    match tag {
+        ADDITION => good_record(contents, starts).then_some(Change::Add { start, end }),
+        REMOVAL => good_removal(contents).then_some(Change::Remove { start, end }),
+        _ => None,
     }
-    if tag == 0x31 {
-        if good_removal(&changes[start..end]) {
-            return Change::Remove { start, end };
-        }
-        return Change::Malformed;
-    }
-    Change::Malformed
 }

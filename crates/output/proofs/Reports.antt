@@ -1,4 +1,5 @@
 -- What was collected, reported.
+use Rattle.std.specs.Prelude.{Result}
 use Prim.Native.Nat.{ℕ, ◌≤◌}
 use mathlib.Core.Path.{◌≡◌, sym}
 use mathlib.Core.List.{List}
@@ -7,9 +8,9 @@ use lib.ListN.{length, take}
 use lib.Seq.{length-take-le}
 use Rattle.registry.specs.Limits.{most_records}
 use Rattle.output.specs.Listing.{Reported, Collected}
-use Rattle.output.specs.declared.Listed.{Listed}
+use Rattle.output.specs.declared.NoRoom.{NoRoom}
 
-pub same-reported : {x y list after : List ℕ} {r : Listed} → x ≡ y → Reported x list after r → Reported y list after r
+pub same-reported : {x y list after : List ℕ} {r : Result ℕ NoRoom} → x ≡ y → Reported x list after r → Reported y list after r
 same-reported e p = rw (← e) p
 
 module _ {hits found : List ℕ} {n : ℕ} (c : Collected hits found n) where
@@ -22,5 +23,5 @@ module _ {hits found : List ℕ} {n : ℕ} (c : Collected hits found n) where
   pub few-reported : length (take n hits) ≤ most_records
   few-reported = let k = as_many in omega (arith, c.few)
 
-  pub reported : {list after : List ℕ} {r : Listed} → Reported (take n hits) list after r → Reported found list after r
+  pub reported : {list after : List ℕ} {r : Result ℕ NoRoom} → Reported (take n hits) list after r → Reported found list after r
   reported p = same-reported c.same p

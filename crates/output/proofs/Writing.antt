@@ -8,7 +8,9 @@ use borrow.Author.Tests.{lt-ltb, le-ltb}
 use lib.ListN.{length, take, drop, set, get_or, length-append, length-take, length-drop, drop_of_length-le}
 use lib.Seq.{take_all, take_at, drop_at, drop-drop, drop-cons, set_at, append_snoc}
 use borrow.Rule.Slice.PartMut.{put_mid}
-use Rattle.output.specs.Writing.{over, if_room, counted, counted_of, Written, Reached}
+use Rattle.std.specs.Prelude.{Ok, Err}
+use Rattle.output.specs.declared.WriteError.TheVariants.{NoRoom}
+use Rattle.output.specs.Writing.{over, if_room, counted_of, Written, Reached}
 
 pub written-nothing : (a : List ℕ) → Written [] a a 0
 written-nothing a = record { size = refl; is = refl }
@@ -27,10 +29,10 @@ written-front {s} {a} {m = m} w = ap (take m) w.is ∙ take_at s (drop m a) m (s
 -- all or nothing, and what is told of it
 module _ (text before : List ℕ) {count n : ℕ} (e : n ≡ count) where
   pub all-put : length text ≤ length before → {after : List ℕ} → after ≡ over text before
-      → (counted 0 n ≡ counted_of text count (length before)) × (after ≡ if_room text before)
+      → (Ok n ≡ counted_of text count (length before)) × (after ≡ if_room text before)
   all-put h o = (rw (le-ltb (length before) (length text) h, e), rw (le-ltb (length before) (length text) h) o)
 
-  pub nothing_put : length before < length text → (counted 9 n ≡ counted_of text count (length before)) × (before ≡ if_room text before)
+  pub nothing_put : length before < length text → (Err (NoRoom n) ≡ counted_of text count (length before)) × (before ≡ if_room text before)
   nothing_put h = (rw (lt-ltb (length before) (length text) h, e), rw (lt-ltb (length before) (length text) h))
 
 -- the buffer keeps its length

@@ -1,27 +1,23 @@
 -- Serves contracts and proofs. How record numbers are reported to a lent list (S3.2, reasons 9 and 0; S3.5).
-use Rattle.std.specs.Prelude.{ℕ, ◌≤◌, cond, ◌≡◌, List, [], ◌∷◌, ltb, length, take}
+use Rattle.std.specs.Prelude.{ℕ, ◌≤◌, cond, ◌≡◌, List, Result, Ok, Err, ltb, length, take}
 use Rattle.registry.specs.Limits.{most_records}
-use Rattle.output.specs.declared.Found.{Found}
-use Rattle.output.specs.declared.Found.TheVariants.{At, Nothing}
-use Rattle.output.specs.declared.Listed.{Listed}
-use Rattle.output.specs.declared.Listed.TheVariants.{Done, Full}
+use Rattle.output.specs.declared.NoRoom.{NoRoom}
 use Rattle.output.specs.Writing.{if_room}
 
--- the record numbers that are found
-abbrev pub found_numbers : Found → List ℕ
-found_numbers (At n) = n ∷ []
-found_numbers Nothing = []
+-- the reason why nothing is reported: so many places are needed
+abbrev pub no_room : ℕ → NoRoom
+no_room needed = record { needed = needed }
 
 -- Whether the list has fewer places than there are records to report. The count is how many there are, also where they do not fit.
-unfoldable pub listed_of : List ℕ → ℕ → Listed
-listed_of found room = cond (ltb room (length found)) (Full (length found)) (Done (length found))
+unfoldable pub listed_of : List ℕ → ℕ → Result ℕ NoRoom
+listed_of found room = cond (ltb room (length found)) (Err (no_room (length found))) (Ok (length found))
 
 -- The list afterwards: the first count places hold the record numbers, the rest are unchanged; where they do not fit all of it is.
 unfoldable pub list_afterwards : List ℕ → List ℕ → List ℕ
 list_afterwards = if_room
 
 -- What a call that reports the record numbers found promises: its answer, and the whole list afterwards.
-pub record Reported (found list after : List ℕ) (r : Listed) : Type 0 where
+pub record Reported (found list after : List ℕ) (r : Result ℕ NoRoom) : Type 0 where
   pub answer : r ≡ listed_of found (length list)
   pub written : after ≡ list_afterwards found list
 

@@ -1,6 +1,7 @@
 -- Bytes or numbers written to the start of a lent buffer: what was written, then what was there; where there is no room, nothing.
-use Rattle.std.specs.Prelude.{ℕ, cond, ◌≡◌, List, ◌++◌, ltb, length, drop}
-use Rattle.output.specs.declared.Counted.{Counted}
+use Rattle.std.specs.Prelude.{ℕ, cond, ◌≡◌, List, ◌++◌, ltb, length, drop, Result, Ok, Err}
+use Rattle.output.specs.declared.WriteError.{WriteError}
+use Rattle.output.specs.declared.WriteError.TheVariants.{NoRoom}
 
 -- The buffer afterwards: the text, then what it held there before.
 abbrev pub over : (text before : List ℕ) → List ℕ
@@ -10,12 +11,9 @@ over text before = text ++ drop (length text) before
 abbrev pub if_room : (text before : List ℕ) → List ℕ
 if_room text before = cond (ltb (length before) (length text)) before (over text before)
 
-abbrev pub counted : (reason count : ℕ) → Counted
-counted reason count = record { reason = reason; count = count }
-
--- What such a call tells: reason 9 where there is less room than the text needs; the count is of the things in it, written or needed.
-abbrev pub counted_of : (text : List ℕ) (count room : ℕ) → Counted
-counted_of text count room = counted (cond (ltb room (length text)) 9 0) count
+-- What such a call tells: no room where there is less than the text needs; the count is of the things in it, needed or written.
+abbrev pub counted_of : (text : List ℕ) (count room : ℕ) → Result ℕ WriteError
+counted_of text count room = cond (ltb room (length text)) (Err (NoRoom count)) (Ok count)
 
 -- Serves contracts and proofs from here on: n of them are written, and the rest is unchanged
 pub record Written (written before after : List ℕ) (n : ℕ) : Type 0 where

@@ -5,22 +5,23 @@ use mathlib.Core.List.{List, [], ◌∷◌, ◌++◌}
 use Prim.Native.Nat.{ℕ, zero, suc, ◌+◌, ◌-◌, ◌≤◌, ◌<◌}
 use native.Mathlib.Omega.{arith}
 use native.Mathlib.Numerals.{add-one}
-use lib.ListN.{length, get_or, take, drop, set, length-set}
+use lib.ListN.{length, get_or, drop, set, length-set}
 use lib.Seq.{get_or-set_same, get_or-set_other}
 use Rattle.records.specs.Record.{Record, first_of, follows}
 use Rattle.records.specs.Judge.{bad, good, in_order, crosses_any, judge}
 use Rattle.records.proofs.Accepted.{After, follows-after}
 use Rattle.image.specs.Image.{defective, after_judged, after_next, image_from}
 use Rattle.placing.specs.Step.{nest_in}
-use Rattle.nesting.specs.declared.Nesting.{Nesting}
-use Rattle.nesting.specs.declared.Nesting.TheVariants.{Under, Crossing}
+use Rattle.std.specs.Prelude.{Option, Some, None}
 use Rattle.placing.proofs.Opens.{Open, open_none, Goes, Nested, nests, pushed}
 use Rattle.rows.specs.Entry.{Entry, parsed_of, row_of}
 use Rattle.rows.specs.Ordered.{AllAfter, after-cons, Ordered, ordered-cons}
 use Rattle.records.proofs.Judging.{judged-after}
 use Rattle.rows.proofs.Rows.{image-step, entry-head}
 use Rattle.changes.proofs.Ranks.{no-cons}
-use Rattle.merged.specs.Held.{bytes_at, parsed_from, entry_of, entries_at, Recorded, Merged}
+use Rattle.merged.specs.Held.{parsed_from, entry_of, Recorded, Merged}
+use Rattle.merged.specs.Listed.{bytes_in, listed}
+use Rattle.merged.specs.declared.Records.{Records}
 use Rattle.overlaps.specs.Overlaps.{OpenBlocks, open_last, Overlaps}
 use Rattle.merged.proofs.Known.{known, first-at-most}
 use Rattle.merged.proofs.Numbered.{entry_at, recorded_at}
@@ -37,20 +38,20 @@ sorted-next (suc i) [] x y rest more s e f = absurd (no-cons x rest e)
 sorted-next zero (z ∷ es) x y rest more (ordered-cons a s) e f = let k : z ≡ x = cc in rw (← k) (first-after z.parsed es y more a f)
 sorted-next (suc i) (z ∷ es) x y rest more (ordered-cons a s) e f = sorted-next i es x y rest more s e f
 
-pub record Scanned (image changes : List ℕ) (es : List Entry) (stack : List ℕ) (depth before i : ℕ) : Type 0 where
+pub record Scanned (records : Records) (stack : List ℕ) (depth before i : ℕ) : Type 0 where
   pub earlier : List Record
   pub bound : ℕ
   pub counted : length earlier ≡ i
-  pub opened : Open earlier before bound (open_last image changes stack) depth
-  pub blocks : before ≤ 18 → OpenBlocks image changes stack depth before
+  pub opened : Open earlier before bound (open_last records stack) depth
+  pub blocks : before ≤ 18 → OpenBlocks records stack depth before
   pub size : length stack ≡ 4096
   pub shallow : depth ≤ i
-  pub rest : image_from (4096 - i) earlier (row_of (drop i es)) ≡ image_from 4096 [] (row_of es)
-  pub next : (x : Entry) (more : List Entry) → drop i es ≡ x ∷ more → (in_order earlier x.parsed ≡ true) × After before bound x.parsed
+  pub rest : image_from (4096 - i) earlier (row_of (drop i (listed records))) ≡ image_from 4096 [] (row_of (listed records))
+  pub next : (x : Entry) (more : List Entry) → drop i (listed records) ≡ x ∷ more → (in_order earlier x.parsed ≡ true) × After before bound x.parsed
 
-pub scan-start : (image changes : List ℕ) (es : List Entry) (stack : List ℕ) → length stack ≡ 4096 → Scanned image changes es stack 0 0 0
+pub scan-start : (records : Records) (stack : List ℕ) → length stack ≡ 4096 → Scanned records stack 0 0 0
 unfolding in_order
-scan-start image changes es stack z = record {
+scan-start records stack z = record {
   earlier = [];
   bound = 0;
   counted = refl;
@@ -62,31 +63,33 @@ scan-start image changes es stack z = record {
   next = λ x more e. (refl, record { tags = omega arith; firsts = λ f b. omega arith });
 }
 
-module _ {image changes index : List ℕ} {count : ℕ} (o : Merged image changes index count)
-    {stack : List ℕ} {depth before i : ℕ} (m : Scanned image changes (entries_at image changes (take count index)) stack depth before i) (l : i < count) where
+module _ {records : Records} {stack : List ℕ} {depth before i : ℕ} (m : Scanned records stack depth before i) (l : i < records.count) where
+  abbrev o : Merged records.image.now records.changes.now records.starts records.count
+  o = records.merged
+
   abbrev es : List Entry
-  es = entries_at image changes (take count index)
+  es = listed records
 
   abbrev start : ℕ
-  start = get_or index i 0
+  start = get_or records.starts i 0
 
   abbrev x : Entry
-  x = entry_of (bytes_at image changes start)
+  x = entry_of (bytes_in records start)
 
   abbrev q : Record
-  q = parsed_from (bytes_at image changes start)
+  q = parsed_from (bytes_in records start)
 
   here : drop i es ≡ x ∷ drop (suc i) es
   here = entry_at o i l
 
-  pub whole : Recorded (bytes_at image changes start)
+  pub whole : Recorded (bytes_in records start)
   whole = recorded_at o i l
 
   pub after : After before m.bound q
   after = (m.next x (drop (suc i) es) here).1
 
   -- a block after a block of its tag
-  pub open_blocks : before ≡ q.tag → before ≤ 18 → OpenBlocks image changes stack depth before
+  pub open_blocks : before ≡ q.tag → before ≤ 18 → OpenBlocks records stack depth before
   open_blocks e b = m.blocks b
 
   pub scan-room : i < 4096 → depth ≤ 4096
@@ -101,7 +104,7 @@ module _ {image changes index : List ℕ} {count : ℕ} (o : Merged image change
         let w = whole in
         let a : image_from (4096 - i) m.earlier (row_of (drop i es))
         ≡ after_next m.earlier (after_judged (judge m.earlier w.tag w.contents) (row_of (drop (suc i) es))) (λ r t. image_from (4096 - (i + 1)) (r ∷ m.earlier) t) =
-        rw (here, z) (image-step m.earlier w.tag w.contents (row_of (drop (suc i) es)) (4096 - (i + 1)) (bytes_at image changes start ++ row_of (drop (suc i) es)) (entry-head x w (row_of (drop (suc i) es)))) in
+        rw (here, z) (image-step m.earlier w.tag w.contents (row_of (drop (suc i) es)) (4096 - (i + 1)) (bytes_in records start ++ row_of (drop (suc i) es)) (entry-head x w (row_of (drop (suc i) es)))) in
         let b : judge m.earlier w.tag w.contents ≡ cond true (cond (crosses_any m.earlier q) (bad 7) (good q)) (bad 6) =
         judged-after [] w.tag w.contents q w.alone m.earlier ∙ rw (m.next x (drop (suc i) es) here).0 in
         sym (a ∙ rw b (by_overlap (crosses_any m.earlier q))) ∙ m.rest
@@ -111,17 +114,17 @@ module _ {image changes index : List ℕ} {count : ℕ} (o : Merged image change
         by_overlap true = refl
         by_overlap false = refl
 
-    module _ (y : Nesting) (p : y ≡ nest_in (open_last image changes stack) before q depth) where
-      says : Nested m.earlier before (open_last image changes stack) depth q y
+    module _ (y : Option ℕ) (p : y ≡ nest_in (open_last records stack) before q depth) where
+      says : Nested m.earlier before (open_last records stack) depth q y
       says = rw p (nests m.opened q (known _ whole).low after (first-at-most _ whole))
 
-      pub scan_crossing : y ≡ Crossing → image_from 4096 [] (row_of es) ≡ defective 7 i
+      pub scan_crossing : y ≡ None → image_from 4096 [] (row_of es) ≡ defective 7 i
       scan_crossing e =
           let p : crosses_any m.earlier q ≡ true = rw e at says in
           sym (rw (p, m.counted) at step)
 
-      module _ (u : ℕ) (e : y ≡ Under u) where
-        under : Goes m.earlier before (open_last image changes stack) depth q u
+      module _ (u : ℕ) (e : y ≡ Some u) where
+        under : Goes m.earlier before (open_last records stack) depth q u
         under = rw e at says
 
         pub scan_depth : u < 4096
@@ -130,14 +133,14 @@ module _ {image changes index : List ℕ} {count : ℕ} (o : Merged image change
         in_stack : u < length stack
         in_stack = omega (arith, scan_depth, m.size)
 
-        pub scan-next : Scanned image changes es (set stack u start) (u + 1) q.tag (i + 1)
+        pub scan-next : Scanned records (set stack u start) (u + 1) q.tag (i + 1)
         unfolding in_order
         scan-next = record {
           earlier = q ∷ m.earlier;
           bound = first_of q;
           counted = omega (arith, m.counted);
           opened = under.onward _ (λ d h. rw (get_or-set_other stack u d start 0 (λ z. omega (arith, z, h)))) (λ h. rw (get_or-set_same stack u start 0 in_stack));
-          blocks = λ h. pushed (λ (v : ℕ). Recorded (bytes_at image changes v) × ((parsed_from (bytes_at image changes v)).tag ≡ q.tag)) stack u start in_stack (whole, refl)
+          blocks = λ h. pushed (λ (v : ℕ). Recorded (bytes_in records v) × ((parsed_from (bytes_in records v)).tag ≡ q.tag)) stack u start in_stack (whole, refl)
               (λ d k. let f = under.family (omega (arith, k)) in (rw f at (m.blocks (omega arith))) d (omega (arith, k, under.few)));
           size = length-set stack u start ∙ m.size;
           shallow = omega (arith, under.few, m.shallow);
@@ -147,16 +150,12 @@ module _ {image changes index : List ℕ} {count : ℕ} (o : Merged image change
               (g, follows-after q y.parsed g));
         }
 
-        pub scan_on : (t : ℕ) → t ≡ q.tag → Scanned image changes es (set stack u start) (u + 1) t (i + 1)
+        pub scan_on : (t : ℕ) → t ≡ q.tag → Scanned records (set stack u start) (u + 1) t (i + 1)
         scan_on t f = rw f scan-next
 
 -- the answers
-pub overlap_here : (es : List Entry) (n k : ℕ) → k < n → image_from 4096 [] (row_of es) ≡ defective 7 k → Overlaps es n k
-overlap_here es n k h e = record { few = omega arith; here = λ z. e; none = λ z. absurd (omega (arith, z)) }
+pub overlap_here : (es : List Entry) (n k : ℕ) → k < n → image_from 4096 [] (row_of es) ≡ defective 7 k → Overlaps es n (Some k)
+overlap_here _ n k h e = (h, e)
 
-pub overlap_none : (image changes : List ℕ) (es : List Entry) (stack : List ℕ) (depth before i n : ℕ) → Scanned image changes es stack depth before i → i ≡ n → Overlaps es n n
-overlap_none image changes es stack depth before i n m e = record {
-  few = omega arith;
-  here = λ z. absurd (omega (arith, z));
-  none = λ z. record { earlier = m.earlier; counted = m.counted ∙ e; rest = rw (← e) m.rest };
-}
+pub overlap_none : {records : Records} {stack : List ℕ} {depth before i : ℕ} (n : ℕ) → Scanned records stack depth before i → i ≡ n → Overlaps (listed records) n None
+overlap_none n m e = record { earlier = m.earlier; counted = m.counted ∙ e; rest = rw (← e) m.rest }

@@ -1,2 +1,3 @@
+pub mod Splitting
 pub mod Among
 pub mod Parts

@@ -1,5 +1,5 @@
 -- Patterns: a text with at most one asterisk, which stands for zero or more bytes (S9).
-use Rattle.std.specs.Prelude.{ℕ, ◌+◌, ◌-◌, List, [], ◌∷◌, Bool, true, false, cond, not, ◌&&◌, ◌||◌, eqb, leb, ltb, length, get_or, take, drop}
+use Rattle.std.specs.Prelude.{ℕ, ◌+◌, ◌-◌, List, [], ◌∷◌, Bool, true, false, cond, not, ◌&&◌, ◌||◌, eqb, leb, ltb, length, get_or, take, drop, Result, Ok, Err}
 use Prim.Native.Char.{code}
 use Rattle.registry.specs.Limits.{most_host, most_text}
 use Rattle.octets.specs.Lists.{within, every, contains}
@@ -9,7 +9,9 @@ use Rattle.texts.specs.Compare.{alike}
 use Rattle.registry.specs.declared.Text.{Text}
 use Rattle.registry.specs.declared.Text.TheVariants.{Handle, Name, Host}
 use Rattle.pattern.specs.declared.Form.{Form}
-use Rattle.pattern.specs.declared.Form.TheVariants.{Exact, Asterisk, Unsupported, Malformed}
+use Rattle.pattern.specs.declared.Form.TheVariants.{Exact, Asterisk}
+use Rattle.pattern.specs.declared.PatternError.{PatternError}
+use Rattle.pattern.specs.declared.PatternError.TheVariants.{Unsupported, Malformed}
 
 abbrev pub is_host : Text → Bool
 is_host Handle = false
@@ -36,14 +38,14 @@ unfoldable pub is_suffix : Bool → List ℕ → Bool
 is_suffix host q = leb (length q) 0 || (host && leb 2 (length q) && eqb (get_or q 0 0) (code "."))
 
 -- S9.3: the pieces of a pattern cut at its asterisks. More than one asterisk, or one that is not last, is not supported.
-unfoldable pub form_of : Bool → List (List ℕ) → Form
-form_of host [] = Unsupported
-form_of host (p ∷ []) = Exact
-form_of host (p ∷ q ∷ []) = cond (is_suffix host q) (Asterisk (length p)) Unsupported
-form_of host (p ∷ q ∷ r ∷ ps) = Unsupported
+unfoldable pub form_of : Bool → List (List ℕ) → Result Form PatternError
+form_of host [] = Err Unsupported
+form_of host (p ∷ []) = Ok Exact
+form_of host (p ∷ q ∷ []) = cond (is_suffix host q) (Ok (Asterisk (length p))) (Err Unsupported)
+form_of host (p ∷ q ∷ r ∷ ps) = Err Unsupported
 
-unfoldable pub pattern_of : Text → List ℕ → Form
-pattern_of text pattern = cond (is_pattern text pattern) (form_of (is_host text) (split (code "*") pattern)) Malformed
+unfoldable pub pattern_of : Text → List ℕ → Result Form PatternError
+pattern_of text pattern = cond (is_pattern text pattern) (form_of (is_host text) (split (code "*") pattern)) (Err Malformed)
 
 -- S9.2: the name is prefix, then some bytes for the asterisk, then suffix; where there is a suffix, those bytes hold no dot
 unfoldable pub matches : Bool → List ℕ → List ℕ → List ℕ → Bool
@@ -57,8 +59,6 @@ matches folded prefix suffix name =
 unfoldable pub matches_form : Bool → Form → List ℕ → List ℕ → Bool
 matches_form folded Exact pattern name = alike folded pattern name
 matches_form folded (Asterisk at) pattern name = ltb at (length pattern) && matches folded (take at pattern) (drop (at + 1) pattern) name
-matches_form folded Unsupported pattern name = false
-matches_form folded Malformed pattern name = false
 
 -- S9.4: names match with ASCII case folded, handles exactly.
 abbrev pub folds_case : Text → Bool

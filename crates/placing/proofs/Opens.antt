@@ -18,8 +18,7 @@ use Rattle.records.proofs.Accepted.{After}
 use Rattle.records.proofs.Crossing.{crosses-ended, crosses-around, crosses-other, crosses-no-block, crosses-out}
 use Rattle.nesting.specs.Nest.{nest_of}
 use Rattle.placing.specs.Step.{nest_in}
-use Rattle.nesting.specs.declared.Nesting.{Nesting}
-use Rattle.nesting.specs.declared.Nesting.TheVariants.{Under, Crossing}
+use Rattle.std.specs.Prelude.{Option, Some, None}
 use Rattle.nesting.proofs.Families.{low-family}
 
 -- all end at l or after it
@@ -65,21 +64,21 @@ record Left (lasts : ℕ → ℕ) (tag bound : ℕ) (r : Record) (es : List Reco
   around : Above (last_of r) blocks
   same : (x : Record) → first_of r ≤ first_of x → crosses_any es x ≡ crosses_any blocks x
 
-abbrev Found : (ℕ → ℕ) → ℕ → ℕ → Record → List Record → ℕ → Nesting → Type 0
-Found lasts tag bound r es depth (Under u) = Left lasts tag bound r es depth u
-Found lasts tag bound r es depth Crossing = crosses_any es r ≡ true
+abbrev Found : (ℕ → ℕ) → ℕ → ℕ → Record → List Record → ℕ → Option ℕ → Type 0
+Found lasts tag bound r es depth (Some u) = Left lasts tag bound r es depth u
+Found lasts tag bound r es depth None = crosses_any es r ≡ true
 
 module _ (lasts : ℕ → ℕ) (tag bound : ℕ) (r : Record) (g : first_of r ≤ last_of r) (h : bound ≤ first_of r) (t : tag ≡ r.tag) (b : is_block r.tag ≡ true) where
-  ended : (e : Record) (es : List Record) (d : ℕ) → last_of e < first_of r → (n : Nesting) → Found lasts tag bound r es d n → Found lasts tag bound r (e ∷ es) (suc d) n
+  ended : (e : Record) (es : List Record) (d : ℕ) → last_of e < first_of r → (n : Option ℕ) → Found lasts tag bound r es d n → Found lasts tag bound r (e ∷ es) (suc d) n
   unfolding crosses_any
-  ended e es d l (Under u) f = record {
+  ended e es d l (Some u) f = record {
     blocks = f.blocks;
     few = omega (arith, f.few);
     chain = f.chain;
     around = f.around;
     same = λ x k. rw (crosses-ended e x (lt_of_lt_of_le l k)) (f.same x k);
   }
-  ended e es d l Crossing f = rw (crosses-ended e r l) f
+  ended e es d l None f = rw (crosses-ended e r l) f
 
   found : {depth : ℕ} {es : List Record} → Chain lasts tag bound depth es → Found lasts tag bound r es depth (nest_of lasts (range_of r) depth)
   unfolding crosses_any
@@ -87,7 +86,7 @@ module _ (lasts : ℕ → ℕ) (tag bound : ℕ) (r : Record) (g : first_of r �
   found (inner {d} {e} {es} i j k a c) = by_tests (leb (first_of r) (lasts d)) (leb (last_of r) (lasts d)) refl refl (found c)
     where
       by_tests : (u v : Bool) → leb (first_of r) (lasts d) ≡ u → leb (last_of r) (lasts d) ≡ v → Found lasts tag bound r es d (nest_of lasts (range_of r) d)
-          → Found lasts tag bound r (e ∷ es) (suc d) (cond u (cond v (Under (suc d)) Crossing) (nest_of lasts (range_of r) d))
+          → Found lasts tag bound r (e ∷ es) (suc d) (cond u (cond v (Some (suc d)) None) (nest_of lasts (range_of r) d))
       by_tests true true x y f =
           let l : last_of r ≤ last_of e = rw k (leb-true _ _ y) in
           record { blocks = e ∷ es; few = omega arith; chain = inner i j k a c; around = (l, above-less _ _ es l a); same = λ z w. refl }
@@ -110,9 +109,9 @@ pub record Goes (earlier : List Record) (before : ℕ) (lasts : ℕ → ℕ) (de
   pub family : 0 < u → before ≡ r.tag
   pub onward : (next : ℕ → ℕ) → ((d : ℕ) → d < u → next d ≡ lasts d) → (r.tag ≤ 18 → next u ≡ last_of r) → Open (r ∷ earlier) r.tag (first_of r) next (u + 1)
 
-abbrev pub Nested : List Record → ℕ → (ℕ → ℕ) → ℕ → Record → Nesting → Type 0
-Nested earlier before lasts depth r (Under u) = Goes earlier before lasts depth r u
-Nested earlier before lasts depth r Crossing = crosses_any earlier r ≡ true
+abbrev pub Nested : List Record → ℕ → (ℕ → ℕ) → ℕ → Record → Option ℕ → Type 0
+Nested earlier before lasts depth r (Some u) = Goes earlier before lasts depth r u
+Nested earlier before lasts depth r None = crosses_any earlier r ≡ true
 
 module _ {earlier : List Record} {before bound : ℕ} {lasts : ℕ → ℕ} {depth : ℕ} (o : Open earlier before bound lasts depth)
     (r : Record) (k : 16 ≤ r.tag) (a : After before bound r) (g : first_of r ≤ last_of r) where
@@ -165,8 +164,8 @@ module _ {earlier : List Record} {before bound : ℕ} {lasts : ℕ → ℕ} {dep
       starts : bound ≤ first_of r
       starts = a.firsts e block
 
-      by-nest : (n : Nesting) → Found lasts before bound r o.blocks depth n → Nested earlier before lasts depth r n
-      by-nest (Under u) f = record {
+      by-nest : (n : Option ℕ) → Found lasts before bound r o.blocks depth n → Nested earlier before lasts depth r n
+      by-nest (Some u) f = record {
         few = f.few;
         clear = o.same r block a ∙ f.same r (le_refl _) ∙ none-crossed f.chain r starts f.around;
         family = λ z. e;
@@ -179,12 +178,12 @@ module _ {earlier : List Record} {before bound : ℕ} {lasts : ℕ → ℕ} {dep
           still x b y false z =
               let n : before ≡ x.tag → ⊥ = λ i. eqb-false _ _ z (sym e ∙ i) in
               other_tag chained x n ∙ sym (other_tag f.chain x n)
-      by-nest Crossing f = o.same r block a ∙ f
+      by-nest None f = o.same r block a ∙ f
 
   pub nests : Nested earlier before lasts depth r (nest_in lasts before r depth)
   nests = rw (le-leb 0x10 r.tag k) (by_tags (leb r.tag 0x12) (eqb before r.tag) refl refl)
     where
-      by_tags : (t v : Bool) → leb r.tag 0x12 ≡ t → eqb before r.tag ≡ v → Nested earlier before lasts depth r (cond (t && v) (nest_of lasts (range_of r) depth) (Under 0))
+      by_tags : (t v : Bool) → leb r.tag 0x12 ≡ t → eqb before r.tag ≡ v → Nested earlier before lasts depth r (cond (t && v) (nest_of lasts (range_of r) depth) (Some 0))
       by_tags true true x y =
           let h = leb-true _ _ x in
           let e = eqb-true _ _ y in

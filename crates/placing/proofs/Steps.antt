@@ -20,8 +20,7 @@ use Rattle.records.proofs.Shapes.{a_block, no_block}
 use Rattle.records.proofs.Contents.{ranged, range_on}
 use Rattle.nesting.specs.Nest.{nest_of, open_last}
 use Rattle.placing.specs.Step.{nest_in, step_in, BlockRoom, block_step, record_before, Coming, step_on}
-use Rattle.nesting.specs.declared.Nesting.{Nesting}
-use Rattle.nesting.specs.declared.Nesting.TheVariants.{Under}
+use Rattle.std.specs.Prelude.{Option, Some}
 use Rattle.nesting.proofs.Families.{wide-family}
 
 module _ (p r : Record) where
@@ -34,21 +33,21 @@ module _ (p r : Record) where
   sorted-named h = rw h
 
 module _ (lasts : ℕ → ℕ) (family : ℕ) (r : Record) (depth : ℕ) where
-  pub nest-other : (family ≡ r.tag → ⊥) → nest_in lasts family r depth ≡ Under 0
+  pub nest-other : (family ≡ r.tag → ⊥) → nest_in lasts family r depth ≡ Some 0
   nest-other n = rw (ne_eqb family r.tag n) (by-tag (is_block r.tag))
     where
-      by-tag : (t : Bool) → cond (t && false) (nest_of lasts (range_of r) depth) (Under 0) ≡ Under 0
+      by-tag : (t : Bool) → cond (t && false) (nest_of lasts (range_of r) depth) (Some 0) ≡ Some 0
       by-tag true = refl
       by-tag false = refl
 
-  pub nest-named : 18 < r.tag → nest_in lasts family r depth ≡ Under 0
+  pub nest-named : 18 < r.tag → nest_in lasts family r depth ≡ Some 0
   nest-named h = rw (no_block r.tag h)
 
   pub nest-family : is_block r.tag ≡ true → family ≡ r.tag → (x : Range) → range_of r ≡ x → nest_in lasts family r depth ≡ nest_of lasts x depth
   nest-family h e x f = rw (h, eq-eqb family r.tag e, f)
 
 module _ {b : List ℕ} {p : Layout} {s : List ℕ} {r : Layout} {o stack : List ℕ} {depth : ℕ} (c : Coming b p s r o stack depth) where
-  by_tests : (u : Bool) (n : Nesting) → in_order (record_before b p) (record_on s r) ≡ u → nest_in (open_last o (width_of p.tag) stack) p.tag (record_on s r) depth ≡ n
+  by_tests : (u : Bool) (n : Option ℕ) → in_order (record_before b p) (record_on s r) ≡ u → nest_in (open_last o (width_of p.tag) stack) p.tag (record_on s r) depth ≡ n
       → step_in u n ≡ step_on b p s r o stack depth
   by_tests u n e f = rw (e, f)
 
@@ -63,8 +62,8 @@ module _ {b : List ℕ} {p : Layout} {s : List ℕ} {r : Layout} {o stack : List
           rw (e, lt-ltb p.tag r.tag (omega (arith, c.laid.known)))
       by_before false e = rw (e, ne_eqb p.tag r.tag n) (or_false (ltb p.tag r.tag))
 
-  pub step_other : (p.tag ≡ r.tag → ⊥) → step_in (ltb p.tag r.tag) (Under 0) ≡ step_on b p s r o stack depth
-  step_other n = by_tests _ (Under 0) (order_other n) (nest-other _ _ (record_on s r) depth n)
+  pub step_other : (p.tag ≡ r.tag → ⊥) → step_in (ltb p.tag r.tag) (Some 0) ≡ step_on b p s r o stack depth
+  step_other n = by_tests _ (Some 0) (order_other n) (nest-other _ _ (record_on s r) depth n)
 
   -- the same tag
   module _ (e : p.tag ≡ r.tag) where
@@ -77,8 +76,8 @@ module _ {b : List ℕ} {p : Layout} {s : List ℕ} {r : Layout} {o stack : List
         let n : p.tag ≡ 0 → ⊥ = λ z. omega (arith, c.laid.known) in
         rw (ne_eqb p.tag 0 n, le-ltb p.tag r.tag (omega arith), eq-eqb p.tag r.tag e)
 
-    pub step-named : 18 < r.tag → (v : Bool) → not (at_most (key_of (record_on s r)) (key_of (record_on b p))) ≡ v → step_in v (Under 0) ≡ step_on b p s r o stack depth
-    step-named k v f = by_tests v (Under 0) (order_same ∙ sorted-named (record_on b p) (record_on s r) (no_block r.tag k) ∙ f) (nest-named _ _ (record_on s r) depth k)
+    pub step-named : 18 < r.tag → (v : Bool) → not (at_most (key_of (record_on s r)) (key_of (record_on b p))) ≡ v → step_in v (Some 0) ≡ step_on b p s r o stack depth
+    step-named k v f = by_tests v (Some 0) (order_same ∙ sorted-named (record_on b p) (record_on s r) (no_block r.tag k) ∙ f) (nest-named _ _ (record_on s r) depth k)
 
     module _ (k : r.tag ≤ 18) (w : ℕ) (z : w ≡ width_of r.tag) where
       pub block_room : BlockRoom b (p.start + 3) s (r.start + 3) w o stack depth

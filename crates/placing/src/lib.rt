@@ -2,20 +2,12 @@
 #![tactic(auto)]
 
 ghost use Rattle.std.specs.Prelude.{◌≡◌, ltb};
-ghost use Rattle.nesting.specs.declared.Nesting.TheVariants.{Under};
 ghost use Rattle.placing.specs.Step.{step_in, BlockRoom, block_step, Coming, step_on};
 
-use nesting::{Nesting, nest, range_after};
+use nesting::{nest, range_after};
 use record_order::named_after;
 use records::Layout;
-use registry::{AS_BLOCK, HEAD, IPV6_NETWORK};
-
-// A record after the one before it: it fits under so many open blocks, or what its defect is.
-#[derive(Clone, Copy)]
-pub enum Stepped {
-    Fits(usize),
-    Bad(u32),
-}
+use registry::{AS_BLOCK, Defect, HEAD, IPV6_NETWORK};
 
 // The block of the image whose range starts at start, after one of its tag, whose range is that of before at from.
 fn block_after(
@@ -27,31 +19,28 @@ fn block_after(
     opens: &[u8],
     stack: &[u32],
     depth: usize,
-) -> Stepped
+) -> Result<usize, Defect>
     requires { BlockRoom before.now from image.now start width opens.now stack.now depth }
     ensures { result ≡ block_step before.now from image.now start width opens.now stack.now depth }
 {
     if !range_after(before, from, image, start, width) {
-        return Stepped::Bad(6);
+        return Err(Defect::Unsorted);
     }
-    match nest(image, start, width, opens, stack, depth) {
-        Nesting::Under(d) => Stepped::Fits(d),
-        Nesting::Crossing => Stepped::Bad(7),
-    }
+    nest(image, start, width, opens, stack, depth).ok_or(Defect::Crossing)
 }
 
 // A record of one tag after one of another, family: the higher tag comes after the lower one.
-fn other_tag(family: u8, tag: u8) -> Stepped
-    ensures { result ≡ step_in (ltb family tag) (Under 0) }
+fn other_tag(family: u8, tag: u8) -> Result<usize, Defect>
+    ensures { result ≡ step_in (ltb family tag) (Some 0) }
 {
     if family < tag {
-        return Stepped::Fits(0);
+        return Ok(0);
     }
-    Stepped::Bad(6)
+    Err(Defect::Unsorted)
 }
 
-// The step of every check: the record r of the image, which can be read, after the record p of before, and among the open blocks, whose ranges
-// start at the first depth positions of stack in opens. No record comes before it if p has the tag 0.
+// The step of every check: under how many of the open blocks the record r of the image lies, which can be read, after the record p of before.
+// The ranges of the open blocks start at the first depth positions of stack in opens. No record comes before it if p has the tag 0.
 pub fn step(
     before: &[u8],
     p: Layout,
@@ -60,7 +49,7 @@ pub fn step(
     opens: &[u8],
     stack: &[u32],
     depth: usize,
-) -> Stepped
+) -> Result<usize, Defect>
     requires { Coming before.now p image.now r opens.now stack.now depth }
     ensures { result ≡ step_on before.now p image.now r opens.now stack.now depth }
 {
@@ -71,9 +60,9 @@ pub fn step(
             return other_tag(family, tag);
         }
         if named_after(before, p, image, r) {
-            return Stepped::Fits(0);
+            return Ok(0);
         }
-        return Stepped::Bad(6);
+        return Err(Defect::Unsorted);
     }
     if family != tag {
         return other_tag(family, tag);

@@ -1,15 +1,16 @@
 -- The bytes of a number, high byte first.
-use Prim.Native.Nat.{ℕ, zero, suc, ◌+◌, ◌-◌, ◌*◌, ◌/◌, ◌%◌, ◌^◌, ◌<◌}
+use Prim.Native.Nat.{ℕ, zero, suc, ◌+◌, ◌*◌, ◌/◌, ◌%◌, ◌^◌, ◌<◌}
 use mathlib.Core.Path.{◌≡◌, refl, sym, ap, ◌∙◌}
 use mathlib.Core.List.{List, [], ◌∷◌, ◌++◌, append_assoc, append-nil}
 use native.Mathlib.Omega.{arith}
 use native.Mathlib.Nat.{pow-suc, mod-lt}
-use lib.ListN.{length, take, get_or, length-append}
-use Rattle.octets.specs.Number.{value, value_from, Bytes}
+use lib.ListN.{length, drop, length-append}
+use Rattle.std.specs.Int.{bytes_high_first}
+use Rattle.octets.specs.Number.{value, Bytes}
 use Rattle.octets.proofs.Below.{digits-none, digits-cons, digits_append}
-use Rattle.octets.proofs.Digits.{append_from}
+use Rattle.octets.proofs.BigEndian.{high_first-suc, value-high_first}
 use Rattle.prefix_bytes.specs.Entry.{big_endian, BytesReadBack}
-use Rattle.prefix_bytes.specs.Words.{word_bytes}
+use Rattle.output.specs.Writing.{Written}
 
 pub length-bytes : (n v : ℕ) → length (big_endian n v) ≡ n
 unfolding big_endian
@@ -38,41 +39,23 @@ bytes-joined n (suc m) h l b =
     let g : l / 256 < 256 ^ m = omega arith in
     rw (e, pow-suc 256 m, x, p, q, bytes-joined n m h (l / 256) g) (append_assoc (big_endian n h) (big_endian m (l / 256)) (l % 256 ∷ []))
 
--- an address of four bytes is the low word
-pub low_word : (h l : ℕ) → h * 18446744073709551616 + l < 4294967296 → h * 18446744073709551616 + l ≡ l
-low_word h l b = omega (arith, b)
-
--- of a number of two words
-pub two_words : (h l : ℕ) → l < 18446744073709551616 → word_bytes (h ∷ l ∷ []) ≡ big_endian 16 (h * 18446744073709551616 + l)
-unfolding word_bytes
-two_words h l b = rw (append-nil (big_endian 8 l)) (sym (bytes-joined 8 8 h l b))
-
--- one word more
-pub word_more : (words : List ℕ) (i : ℕ) → i < length words → word_bytes (take (suc i) words) ≡ word_bytes (take i words) ++ big_endian 8 (get_or words i 0)
-unfolding word_bytes
-word_more [] i h = absurd (omega (arith, h))
-word_more (w ∷ words) zero h = append-nil (big_endian 8 w)
-word_more (w ∷ words) (suc i) h =
-    rw (word_more words i (omega arith)) (sym (append_assoc (big_endian 8 w) (word_bytes (take i words)) (big_endian 8 (get_or words i 0))))
-
--- of a word in two halves
-pub two-halves : (v : ℕ) → big_endian 8 v ≡ big_endian 4 (v / 4294967296) ++ big_endian 4 (v % 4294967296)
+-- sixteen bytes in two halves
+pub two-halves : (v : ℕ) → big_endian 16 v ≡ big_endian 8 (v / 18446744073709551616) ++ big_endian 8 (v % 18446744073709551616)
 two-halves v =
-    let e : v ≡ v / 4294967296 * 4294967296 + v % 4294967296 = omega arith in
-    ap (big_endian 8) e ∙ bytes-joined 4 4 (v / 4294967296) (v % 4294967296) (omega arith)
+    let e : v ≡ v / 18446744073709551616 * 18446744073709551616 + v % 18446744073709551616 = omega arith in
+    ap (big_endian 16) e ∙ bytes-joined 8 8 (v / 18446744073709551616) (v % 18446744073709551616) (omega arith)
 
-pub four_bytes : (v : ℕ) → big_endian 4 v ≡ v / 16777216 % 256 ∷ v / 65536 % 256 ∷ v / 256 % 256 ∷ v % 256 ∷ []
+-- as std writes them
+pub as_high_first : (n v : ℕ) → bytes_high_first n v ≡ big_endian n v
 unfolding big_endian
-four_bytes v =
-    let a : v / 256 / 256 / 256 ≡ v / 16777216 = omega arith in
-    let b : v / 256 / 256 ≡ v / 65536 = omega arith in
-    rw (a, b)
+as_high_first zero v = refl
+as_high_first (suc n) v = high_first-suc n v ∙ ap (λ (s : List ℕ). s ++ (v % 256 ∷ [])) (as_high_first n (v / 256))
+
+-- copied to the front of a buffer
+pub copied : (n v : ℕ) (before : List ℕ) {copy bytes : List ℕ} → copy ≡ bytes → bytes ≡ bytes_high_first n v
+    → Written (big_endian n v) before (copy ++ drop n before) n
+copied n v before e f = record { size = sym (length-bytes n v); is = rw (e, f, as_high_first n v) }
 
 -- a number is read back from its bytes
 pub read_back : BytesReadBack
-unfolding big_endian value value_from
-read_back zero v h = omega (arith, h)
-read_back (suc n) v h =
-    let b : v < 256 ^ n * 256 = rw (pow-suc 256 n) at h in
-    let e : value (big_endian n (v / 256)) ≡ v / 256 = read_back n (v / 256) (omega arith) in
-    append_from 0 (big_endian n (v / 256)) (v % 256 ∷ []) ∙ omega (arith, e)
+read_back n v h = ap value (sym (as_high_first n v)) ∙ value-high_first n v h

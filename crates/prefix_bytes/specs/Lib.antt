@@ -1,3 +1,3 @@
 pub mod Entry
-pub mod Words
+pub mod Fitting
 pub mod Computing

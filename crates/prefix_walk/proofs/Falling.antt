@@ -3,19 +3,18 @@ use Prim.Native.Nat.{ℕ, suc, ◌+◌, ◌-◌, ◌*◌, ◌^◌, ◌%◌, ◌�
 use mathlib.Core.Path.{◌≡◌, ◌∙◌}
 use mathlib.Core.List.{[], ◌∷◌}
 use native.Mathlib.Decide.{dec_lt}
+use native.Mathlib.Nat.{pow-suc}
 use native.Mathlib.Omega.{arith}
 use lib.ListN.{length}
 use lib.Pow.{pow_mono, pow_pos}
 use Rattle.octets.specs.Positions.{Wide}
-use Rattle.octets.specs.Words.{number_of}
-use Rattle.octets.specs.declared.Words.{Words}
 use Rattle.cidr.specs.Prefixes.{prefix, from-to, prefixes_of}
 use Rattle.cidr.specs.First.{Largest, Capped, Top}
 use Rattle.cidr.proofs.Multiples.{Multiple, sum, itself, finer, near, of_remainder, to_remainder}
 use Rattle.cidr.proofs.Greedy.{first-prefix, no_more}
 use Rattle.cidr.proofs.Step.{by-room}
 use Rattle.cidr.proofs.Theorem.{at-most_254}
-use Rattle.prefix_bytes.specs.Words.{EntryFits}
+use Rattle.prefix_bytes.specs.Fitting.{EntryFits}
 use Rattle.prefix_walk.specs.Entries.{fallen, Falling}
 use Rattle.prefix_bytes.proofs.Widths.{at-most-sixteen}
 use Rattle.prefix_walk.proofs.Writing.{entry-fits}
@@ -27,6 +26,9 @@ less i j h = go (dec_lt i j)
     go : Dec (i < j) → i < j
     go (yes l) = l
     go (no l) = absurd (omega (arith, pow_mono {i = j} {j = i} (omega arith)))
+
+pub doubled : {n : ℕ} (k : ℕ) → n < 2 * 2 ^ k → n < 2 ^ suc k
+doubled k h = omega (arith, pow-suc 2 k)
 
 at-most_128 : {width : ℕ} → Wide width → 2 ^ (8 * width) ≤ 2 ^ 128
 at-most_128 {width} w = pow_mono {i = 8 * width} {j = 128} (omega (arith, at-most-sixteen w))
@@ -67,74 +69,42 @@ module _ (w s c j k : ℕ) (positive : 0 < s) (below : s + c ≤ 2 ^ w) (zeros :
       first-prefix w (from-to s (s + c - 1)) k ends-below largest-at ∙ rw (e, after)
 
 -- none is left
-pub none-fallen : {width : ℕ} (first number : Words) → Falling width first number → number_of number ≡ 0 → fallen first number ≡ []
-none-fallen first number f e = no_more 128 (number_of first) (number_of first + number_of number - 1) (ends (number_of first) f.positive e)
-  where
-    ends : (s : ℕ) {c : ℕ} → 0 < s → c ≡ 0 → s + c - 1 < s
-    ends s p q = omega arith
+pub none-fallen : {width : ℕ} (first number : ℕ) → Falling width first number → number ≡ 0 → fallen first number ≡ []
+none-fallen first number f e = no_more 128 first (first + number - 1) (omega (arith, f.positive, e))
 
-module _ {width : ℕ} {first number : Words} (f : Falling width first number) {free : ℕ} (top : Top (number_of number) free) where
-  below : number_of first + number_of number ≤ 2 ^ 128
+module _ {width : ℕ} {first number : ℕ} (f : Falling width first number) {free : ℕ} (top : Top number free) where
+  below : first + number ≤ 2 ^ 128
   below = under 128 f.below (at-most_128 f.wide)
 
-  pub last-below : number_of first + number_of number - 1 < 2 ^ 128
+  pub last-below : first + number - 1 < 2 ^ 128
   last-below = ends-below 128 _ _ f.bits free f.positive below f.zeros f.few top
 
-  pub largest : Largest (from-to (number_of first) (number_of first + number_of number - 1)) free
+  pub largest : Largest (from-to first (first + number - 1)) free
   largest = largest-at 128 _ _ f.bits free f.positive below f.zeros f.few top
 
-  pub not_last : number_of first + 2 ^ free < 2 ^ 128
+  pub not_last : first + 2 ^ free < 2 ^ 128
   not_last = not-last-at 128 _ _ f.bits free f.positive below f.zeros f.few top
 
-  pub fits : EntryFits width (number_of first) free
-  fits = entry-fits width f.wide (forward (number_of first) (some 128 _ _ f.bits free f.positive below f.zeros f.few top)) (inside (number_of first) (number_of number) f.below (some 128 _ _ f.bits free f.positive below f.zeros f.few top)) largest
-    where
-      forward : (s : ℕ) {c : ℕ} → 1 ≤ c → s ≤ s + c - 1
-      forward s h = omega arith
-
-      inside : (n m : ℕ) {k : ℕ} → n + m ≤ k → 1 ≤ m → n + m - 1 < k
-      inside n m h l = omega arith
+  pub fits : EntryFits width first free
+  fits =
+      let one = some 128 _ _ f.bits free f.positive below f.zeros f.few top in
+      entry-fits width f.wide (omega (arith, one)) (omega (arith, one, f.below)) largest
 
   -- the others
-  module _ (start rest : Words) (after : number_of start ≡ number_of first + 2 ^ free) (split : number_of number ≡ 2 ^ free + number_of rest) where
-    pub one_more : fallen first number ≡ prefix (number_of first) free ∷ fallen start rest
-    one_more = one-more-at 128 _ _ f.bits free f.positive below f.zeros f.few top (number_of start) (number_of rest) after split
+  module _ (start rest : ℕ) (after : start ≡ first + 2 ^ free) (split : number ≡ 2 ^ free + rest) where
+    pub one_more : fallen first number ≡ prefix first free ∷ fallen start rest
+    one_more = one-more-at 128 _ _ f.bits free f.positive below f.zeros f.few top start rest after split
 
     pub still : Falling width start rest
     still = record {
       wide = f.wide;
-      positive = rw after (grown (number_of first) (2 ^ free) f.positive);
-      below = same_end (number_of first) (number_of number) (number_of start) (number_of rest) (2 ^ free) f.below after split;
+      positive = omega (arith, f.positive, after);
+      below = omega (arith, f.below, after, split);
       bits = free;
       zeros = rw after (to_remainder free (sum (aligned 128 _ _ f.bits free f.positive below f.zeros f.few top) (itself (2 ^ free))));
-      few = shrunk (number_of number) (number_of rest) split top.to;
+      few = omega (arith, top.to, split, pow-suc 2 free);
     }
-      where
-        grown : (s n : ℕ) → 0 < s → 0 < s + n
-        grown s n h = omega arith
-
-        same_end : (s c n r p : ℕ) {k : ℕ} → s + c ≤ k → n ≡ s + p → c ≡ p + r → n + r ≤ k
-        same_end s c n r p h a b = omega arith
-
-        shrunk : (c r : ℕ) → c ≡ 2 ^ free + r → c < 2 ^ suc free → r < 2 ^ free
-        shrunk c r a b = omega arith
 
 -- there are at most 254, also where there is none
-pub few : {width : ℕ} {first number : Words} → Falling width first number → length (fallen first number) ≤ 254
-few {width} {first} {number} f = at-most_254 _ (last-inside (number_of first) (number_of number) f.positive (under 128 f.below (at-most_128 f.wide)))
-  where
-    last-inside : (s c : ℕ) {k : ℕ} → 0 < s → s + c ≤ k → s + c - 1 < k
-    last-inside s c h l = omega arith
-
--- What a prefix at s leaves of a range up to e: r is its last address, n the one after it, c how many follow it
-pub same-last : (m r n c e : ℕ) → suc r ≡ m → n ≡ m → r + c ≡ e → n + c - 1 ≡ e
-same-last m r n c e a b h = omega arith
-
-pub positive-after : (m r n : ℕ) → suc r ≡ m → n ≡ m → 0 < n
-positive-after m r n a b = omega arith
-
-pub below-after : (m r n c e : ℕ) {k : ℕ} → suc r ≡ m → n ≡ m → r + c ≡ e → e < k → n + c ≤ k
-below-after m r n c e a b h l = omega arith
-
-pub few-after : (s r c e d k : ℕ) → suc r ≡ s + 2 ^ k → r + c ≡ e → s + d ≡ e → suc d < 2 ^ suc k → c < 2 ^ k
-few-after s r c e d k a b h l = omega arith
+pub few : {width : ℕ} {first number : ℕ} → Falling width first number → length (fallen first number) ≤ 254
+few f = at-most_254 _ (omega (arith, f.positive, under 128 f.below (at-most_128 f.wide)))

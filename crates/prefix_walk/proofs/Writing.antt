@@ -13,7 +13,7 @@ use Rattle.output.proofs.Writing.{Parted, written_over, over-written, at-start, 
 use Rattle.cidr.specs.Prefixes.{Prefix, from-to}
 use Rattle.cidr.specs.First.{Largest}
 use Rattle.prefix_bytes.specs.Entry.{entry_of, entries_of}
-use Rattle.prefix_bytes.specs.Words.{EntryFits}
+use Rattle.prefix_bytes.specs.Fitting.{EntryFits}
 use Rattle.prefix_bytes.proofs.Widths.{length-entry}
 use Rattle.prefix_walk.specs.Entries.{Entered, Listed}
 

@@ -1,20 +1,18 @@
 -- Serves contracts and proofs. The entries of prefixes, as the code writes them.
 use Rattle.std.specs.Prelude.{ℕ, ◌+◌, ◌-◌, ◌*◌, ◌^◌, ◌%◌, ◌≤◌, ◌<◌, ◌≡◌, List, length}
 use Rattle.octets.specs.Positions.{Wide}
-use Rattle.octets.specs.Words.{number_of}
-use Rattle.octets.specs.declared.Words.{Words}
 use Rattle.output.specs.Writing.{over, Reached}
 use Rattle.cidr.specs.First.{Capped}
-use Rattle.next_prefix.specs.Walked.{words_range, walked}
+use Rattle.next_prefix.specs.Walked.{walked}
 use Rattle.cidr.specs.Prefixes.{Prefix, from-to, prefixes_of}
 use Rattle.prefix_bytes.specs.Entry.{entries_of}
 use Rattle.prefix_walk.specs.declared.Stop.{Stop}
 
 -- two addresses of so many bytes, in order
-pub record Ordered (width : ℕ) (first last : Words) : Type 0 where
+pub record Ordered (width : ℕ) (first last : ℕ) : Type 0 where
   pub wide : Wide width
-  pub forward : number_of first ≤ number_of last
-  pub below : number_of last < 2 ^ (8 * width)
+  pub forward : first ≤ last
+  pub below : last < 2 ^ (8 * width)
 
 -- all entries are written, and so many they are
 pub record Listed (width : ℕ) (ps : List Prefix) (before after : List ℕ) (n : ℕ) : Type 0 where
@@ -27,20 +25,20 @@ pub record Entered (width : ℕ) (all rest : List Prefix) (before after : List �
   pub reached : Reached (entries_of width all) (entries_of width rest) before after at
 
 -- the entries left are those for which what remains decides
-pub record Climbed (width : ℕ) (first last : Words) (before after : List ℕ) (r : Stop) : Type 0 where
+pub record Climbed (width : ℕ) (first last : ℕ) (before after : List ℕ) (r : Stop) : Type 0 where
   pub entered : Entered width (walked first last) (walked r.start last) before after r.at r.n
-  pub forward : number_of r.start ≤ number_of last
-  pub capped : Capped (words_range r.start last)
+  pub forward : r.start ≤ last
+  pub capped : Capped (from-to r.start last)
 
 -- the prefixes of so many addresses from first on
-abbrev pub fallen : Words → Words → List Prefix
-fallen first number = prefixes_of 128 (from-to (number_of first) (number_of first + number_of number - 1))
+abbrev pub fallen : ℕ → ℕ → List Prefix
+fallen first number = prefixes_of 128 (from-to first (first + number - 1))
 
 -- fewer addresses from first on than a block that its zero bits allow, and first is not 0
-pub record Falling (width : ℕ) (first number : Words) : Type 0 where
+pub record Falling (width : ℕ) (first number : ℕ) : Type 0 where
   pub wide : Wide width
-  pub positive : 0 < number_of first
-  pub below : number_of first + number_of number ≤ 2 ^ (8 * width)
+  pub positive : 0 < first
+  pub below : first + number ≤ 2 ^ (8 * width)
   pub bits : ℕ
-  pub zeros : number_of first % 2 ^ bits ≡ 0
-  pub few : number_of number < 2 ^ bits
+  pub zeros : first % 2 ^ bits ≡ 0
+  pub few : number < 2 ^ bits

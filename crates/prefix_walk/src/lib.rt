@@ -3,25 +3,25 @@
 
 ghost use Rattle.std.specs.Prelude.{◌≤◌, length};
 ghost use Rattle.cidr.specs.First.{Capped};
-ghost use Rattle.next_prefix.specs.Walked.{words_range, walked};
+ghost use Rattle.cidr.specs.Prefixes.{from-to};
+ghost use Rattle.next_prefix.specs.Walked.{walked};
 ghost use Rattle.prefix_bytes.specs.Entry.{entries_of};
 ghost use Rattle.prefix_walk.specs.Entries.{Ordered, Listed, Climbed, fallen, Falling};
 
-use next_prefix::{after, cap, is_zero, last_of, remaining, split_top, trailing_zeros};
-use octets::Words;
+use next_prefix::{cap, last_of, size, zeros_end};
 use prefix_bytes::put_entry;
-use words::words_at_most;
 
 // Where the climbing ended: the next address, where its entry goes, and how many entries are written.
 #[derive(Clone, Copy)]
 struct Stop {
-    start: Words,
+    start: u128,
     at: usize,
     n: u32,
 }
 
 // Writes the entries of the prefixes that end before the range does if the trailing zeros decide. Gives where the others start.
-fn climb(first: Words, last: Words, width: usize, out: &mut [u8]) -> Stop
+// Each starts after the end of the one before it, so that no range counts the turns.
+fn climb(first: u128, last: u128, width: usize, out: &mut [u8]) -> Stop
     requires { Ordered width first last × (length (entries_of width (walked first last)) ≤ length out.old) }
     ensures { Climbed width first last out.old out.new result }
 {
@@ -29,13 +29,12 @@ fn climb(first: Words, last: Words, width: usize, out: &mut [u8]) -> Stop
     let mut at: usize = 0;
     let mut n: u32 = 0;
     loop {
-        let zeros = trailing_zeros(start);
-        let end = last_of(start, zeros);
-        if words_at_most(last, end) {
+        let end = zeros_end(start);
+        if last <= end {
             return Stop { start, at, n };
         }
-        put_entry(start, zeros, width, &mut out[at..]);
-        start = after(start, zeros);
+        put_entry(start, start.trailing_zeros(), width, &mut out[at..]);
+        start = end + 1;
         at += width + 1;
         n += 1;
     }
@@ -43,7 +42,7 @@ fn climb(first: Words, last: Words, width: usize, out: &mut [u8]) -> Stop
 
 // Writes the entries of so many addresses from first on, fewer than its zeros allow: a prefix for each bit of their number, from the highest
 // on. Gives how many there are.
-fn fall(first: Words, number: Words, width: usize, out: &mut [u8]) -> u32
+fn fall(first: u128, number: u128, width: usize, out: &mut [u8]) -> u32
     requires { Falling width first number × (length (entries_of width (fallen first number)) ≤ length out.old) }
     ensures { Listed width (fallen first number) out.old out.new result }
 {
@@ -51,11 +50,12 @@ fn fall(first: Words, number: Words, width: usize, out: &mut [u8]) -> u32
     let mut left = number;
     let mut at: usize = 0;
     let mut n: u32 = 0;
-    while !is_zero(left) {
-        let s = split_top(left);
-        put_entry(start, s.free, width, &mut out[at..]);
-        start = after(start, s.free);
-        left = s.rest;
+    while left != 0 {
+        let free = left.ilog2();
+        let addresses = size(free);
+        put_entry(start, free, width, &mut out[at..]);
+        start += addresses;
+        left -= addresses;
         at += width + 1;
         n += 1;
     }
@@ -63,22 +63,22 @@ fn fall(first: Words, number: Words, width: usize, out: &mut [u8]) -> u32
 }
 
 // Writes the entries of the others, for which what remains decides. Gives how many there are.
-fn descend(first: Words, last: Words, width: usize, out: &mut [u8]) -> u32
-    requires { Ordered width first last × Capped (words_range first last) × (length (entries_of width (walked first last)) ≤ length out.old) }
+fn descend(first: u128, last: u128, width: usize, out: &mut [u8]) -> u32
+    requires { Ordered width first last × Capped (from-to first last) × (length (entries_of width (walked first last)) ≤ length out.old) }
     ensures { Listed width (walked first last) out.old out.new result }
 {
-    let free = cap(remaining(first, last));
+    let free = cap(last - first);
     put_entry(first, free, width, out);
     let end = last_of(first, free);
-    if words_at_most(last, end) {
+    if last <= end {
         return 1;
     }
-    let number = remaining(end, last);
-    1 + fall(after(first, free), number, width, &mut out[width + 1..])
+    let number = last - end;
+    1 + fall(end + 1, number, width, &mut out[width + 1..])
 }
 
 // Writes the entries to the front of the buffer, which has room for them. Gives how many there are.
-pub fn write(first: Words, last: Words, width: usize, out: &mut [u8]) -> u32
+pub fn write(first: u128, last: u128, width: usize, out: &mut [u8]) -> u32
     requires { Ordered width first last × (length (entries_of width (walked first last)) ≤ length out.old) }
     ensures { Listed width (walked first last) out.old out.new result }
 {

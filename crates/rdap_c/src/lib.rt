@@ -129,12 +129,7 @@ pub extern "C" fn rdap_prefixes(range: &[u8], out: &mut [u8], reply: &mut [u32; 
 
 // A change file folded into an image, to the front of the buffer.
 #[unsafe(no_mangle)]
-pub extern "C" fn rdap_fold<'a>(
-    image: &'a [u8],
-    changes: &'a [u8],
-    out: &mut [u8],
-    reply: &mut [u32; 5],
-)
+pub extern "C" fn rdap_fold(image: &[u8], changes: &[u8], out: &mut [u8], reply: &mut [u32; 5])
     ensures reply { reply.new ≡ folding_numbers (fold_of image.now changes.now (length out.old)) }
     ensures out { out.new ≡ out_after (fold_of image.now changes.now (length out.old)) out.old }
 {

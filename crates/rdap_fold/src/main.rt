@@ -15,14 +15,14 @@ ghost use Rattle.changes.specs.Limits.{most_changes};
 
 use changes::MOST_CHANGES;
 use entries::contents_span;
-use fields::{Field, step_at};
+use fields::step_at;
 use files::{
     MOST_NAME, argument, has_just, image_room, part, read_whole, small_room, tell, tell_defect,
     tell_defective, tell_image, tell_name, tell_number, tell_unwritten,
 };
-use final_image::Folded;
+use final_image::FoldError;
 use final_list::final_record;
-use image::{Verdict, index_from};
+use image::index_from;
 use known::Known;
 use registry::{AS_BLOCK, ENTITY, IPV4_NETWORK, MOST_IMAGE, MOST_RECORDS, Part};
 use std::fs::File;
@@ -43,7 +43,7 @@ fn tell_addition(err: &impl Print, r: &[u8])
 {
     let mut starts = [0u32; MOST_RECORDS];
     match index_from(r, 0, &mut starts) {
-        Verdict::Sound(count) => {
+        Ok(count) => {
             if count == 0 {
                 tell(err, b"it holds no record");
             } else if count == 1 {
@@ -53,10 +53,10 @@ fn tell_addition(err: &impl Print, r: &[u8])
                 tell(err, b"bytes follow its record");
             }
         }
-        Verdict::Defective(defect, place) => {
-            if place == 0 {
+        Err(flaw) => {
+            if flaw.place == 0 {
                 tell(err, b"its record has ");
-                tell_defect(err, defect, place);
+                tell_defect(err, flaw);
             } else {
                 tell(err, b"bytes follow its record");
             }
@@ -101,34 +101,29 @@ fn tell_removal(err: &impl Print, r: &[u8]) {
 fn tell_change(err: &impl Print, changes: &[u8], at: usize)
     requires { length changes.now ≤ most_changes }
 {
-    let Field::Whole { tag, start, end } = step_at(changes, at) else {
+    let Some(field) = step_at(changes, at) else {
         tell(err, b"it is cut short");
         return;
     };
-    let r = part(changes, start, end);
-    if tag == 0x30 {
+    let r = part(changes, field.start, field.end);
+    if field.tag == 0x30 {
         tell_addition(err, r);
-    } else if tag == 0x31 {
+    } else if field.tag == 0x31 {
         tell_removal(err, r);
     } else {
         tell(err, b"its tag is neither 30 nor 31");
     }
 }
 
-// How many changes there are before an offset.
+// How many changes there are before an offset. From change to change, so that no range counts the turns.
 fn number_at(changes: &[u8], offset: usize) -> usize {
     let mut n: usize = 0;
     let mut at: usize = 0;
     while at < offset {
-        let Field::Whole {
-            tag: _,
-            start: _,
-            end,
-        } = step_at(changes, at)
-        else {
+        let Some(field) = step_at(changes, at) else {
             return n;
         };
-        at = end;
+        at = field.end;
         n += 1;
     }
     n
@@ -146,30 +141,38 @@ fn tell_refused(err: &impl Print, changes: &[u8], at: usize)
     tell(err, b"\n");
 }
 
+// The file that is at fault.
+fn tell_file(err: &impl Print, name: &[u8]) {
+    tell(err, name);
+    tell(err, b": ");
+}
+
 // Why nothing was written.
-fn tell_refusal<'a>(
+fn tell_refusal(
     err: &impl Print,
-    r: Folded,
-    image: &'a [u8],
-    changes: &'a [u8],
+    error: FoldError,
+    image: &[u8],
+    changes: &[u8],
     image_name: &[u8],
     changes_name: &[u8],
 )
     requires { length changes.now ≤ most_changes }
 {
-    if r.reason == 2 {
-        tell_image(err, image_name, r.defect, r.place);
-        return;
+    match error {
+        FoldError::Image(flaw) => tell_image(err, image_name, flaw),
+        FoldError::Change(offset) => {
+            tell_file(err, changes_name);
+            tell_refused(err, changes, offset as usize);
+        }
+        FoldError::Final(flaw) => {
+            tell_file(err, changes_name);
+            tell(err, b"the result would have ");
+            let last = final_record(image, changes, flaw.place as usize);
+            tell_defective(err, flaw, handle_in(last));
+        }
+        // The buffer has room for any image.
+        FoldError::NoRoom(_) => {}
     }
-    tell(err, changes_name);
-    tell(err, b": ");
-    if r.reason == 11 {
-        tell_refused(err, changes, r.offset as usize);
-        return;
-    }
-    tell(err, b"the result would have ");
-    let last = final_record(image, changes, r.place as usize);
-    tell_defective(err, r.defect, r.place, handle_in(last));
 }
 
 // Whether OUTPUT is a file to replace, or is not there. A folder or a device is not replaced.
@@ -205,11 +208,11 @@ fn write_number(rt: &impl Print, err: &impl Print, n: usize) {
     }
 }
 
-fn fold_into<'a, R: Files<File = File> + RandomSource + Print>(
+fn fold_into<R: Files<File = File> + RandomSource + Print>(
     rt: &R,
     err: &impl Print,
-    image: &'a [u8],
-    changes: &'a [u8],
+    image: &[u8],
+    changes: &[u8],
     image_name: &[u8],
     changes_name: &[u8],
     output: &[u8],
@@ -217,14 +220,14 @@ fn fold_into<'a, R: Files<File = File> + RandomSource + Print>(
     requires { (length changes.now ≤ most_changes) × (length output.now ≤ most_records) }
 {
     let mut room = image_room();
-    let r = rdap::fold(image, changes, &mut room);
-    if r.reason == 0 {
-        let n = r.count as usize;
-        if save(rt, err, output, part(&room, 0, n)) {
-            write_number(rt, err, n);
+    match rdap::fold(image, changes, &mut room) {
+        Ok(count) => {
+            let n = count as usize;
+            if save(rt, err, output, part(&room, 0, n)) {
+                write_number(rt, err, n);
+            }
         }
-    } else {
-        tell_refusal(err, r, image, changes, image_name, changes_name);
+        Err(error) => tell_refusal(err, error, image, changes, image_name, changes_name),
     }
 }
 

@@ -6,7 +6,7 @@
 // PATHS is read in a stream and may be of any length. IMAGE has at most 65,536 bytes.
 #![tactic(auto)]
 
-ghost use Rattle.std.specs.Prelude.{◌+◌, ◌≤◌, ◌<◌, ◌++◌, IfOk, length, take};
+ghost use Rattle.std.specs.Prelude.{◌≡◌, ◌+◌, ◌≤◌, ◌<◌, ◌++◌, IfOk, length, take};
 ghost use Rattle.lines.specs.Lined.{longest_line, line_of};
 ghost use Rattle.output.specs.Writing.{Written};
 
@@ -19,37 +19,7 @@ use std::io::{ErrorKind, Read};
 use std::rt::Files;
 use std::{fs, io};
 
-// The output: what was put stands at the start of a buffer of 32,768 bytes and room for a line.
-
-// Writes out what was put, unless nobody reads that any more. Gives whether that is so afterwards.
-fn flush(rt: &impl Print, err: &impl Print, out: &[u8; 77868], at: usize, unread: bool) -> bool {
-    if unread {
-        return true;
-    }
-    match write_out(rt, err, part(out, 0, at)) {
-        Ok(()) => false,
-        Err(e) => e.kind() == ErrorKind::BrokenPipe,
-    }
-}
-
-// Where the next line goes: after what was put, while that is short; else what was put is written out first.
-fn make_room(
-    rt: &impl Print,
-    err: &impl Print,
-    out: &[u8; 77868],
-    at: usize,
-    unread: &mut bool,
-) -> usize
-    ensures { result < 32768 }
-{
-    if at < 32768 {
-        return at;
-    }
-    *unread = flush(rt, err, out, at, *unread);
-    0
-}
-
-// Answers a path, and puts its line there. Gives where the line ends.
+// Answers a path, and puts its line after what was put. Gives where the line ends.
 fn put_answer(path: &[u8], image: &[u8], list: &mut PerRecord, out: &mut [u8], at: usize) -> usize
     requires { at + longest_line ≤ length out.old }
     ensures { Written (take at out.old ++ line_of path.now image.now) out.old out.new result }
@@ -57,102 +27,80 @@ fn put_answer(path: &[u8], image: &[u8], list: &mut PerRecord, out: &mut [u8], a
     at + lines::put_answer(path, image, list, &mut out[at..])
 }
 
-// How many bytes of a line are kept, how many of the output are put, and whether nobody reads that any more.
-#[derive(Clone, Copy)]
-struct Kept {
-    line: usize,
-    out: usize,
+// The most bytes of a line that are kept: longer ones are too long in the same way.
+const MOST_LINE: usize = 1025;
+
+// The answers to the lines of a file: the line that is being read, and the output that is put and not yet written out.
+#[derive(Drop)]
+struct Answers<'a> {
+    image: &'a [u8],
+    list: PerRecord,
+    line: [u8; MOST_LINE],
+    kept: usize,
+    // what was put stands at the start of 32,768 bytes and room for a line
+    out: [u8; 77868],
+    put: usize,
+    // nobody reads the output any more
     unread: bool,
 }
 
-fn nothing_kept() -> Kept {
-    Kept {
-        line: 0,
-        out: 0,
-        unread: false,
+impl<'a> Answers<'a> {
+    fn new(image: &'a [u8]) -> Answers<'a> {
+        Answers {
+            image,
+            list: [0; MOST_RECORDS],
+            line: [0; MOST_LINE],
+            kept: 0,
+            out: [0; 77868],
+            put: 0,
+            unread: false,
+        }
     }
-}
 
-// Keeps a byte of a line. More than 1,025 are too long in the same way.
-fn keep(line: &mut [u8; 1025], len: usize, b: u8) -> usize {
-    if len < 1025 {
-        line[len] = b;
-        return len + 1;
+    // Writes out what was put, unless nobody reads it.
+    fn flush(&mut self, rt: &impl Print, err: &impl Print)
+        ensures { self.new.put ≡ 0 }
+    {
+        if !self.unread {
+            if let Err(e) = write_out(rt, err, part(&self.out, 0, self.put)) {
+                self.unread = e.kind() == ErrorKind::BrokenPipe;
+            }
+        }
+        self.put = 0;
     }
-    len
-}
 
-// Answers the line that is kept.
-fn end_line(
-    rt: &impl Print,
-    err: &impl Print,
-    line: &[u8],
-    kept: Kept,
-    image: &[u8],
-    list: &mut PerRecord,
-    out: &mut [u8; 77868],
-) -> Kept {
-    let mut unread = kept.unread;
-    let at = make_room(rt, err, out, kept.out, &mut unread);
-    Kept {
-        line: 0,
-        out: put_answer(part(line, 0, kept.line), image, list, out, at),
-        unread,
+    // Answers the line that is kept.
+    fn end_line(&mut self, rt: &impl Print, err: &impl Print) {
+        if 32768 <= self.put {
+            self.flush(rt, err);
+        }
+        let path = part(&self.line, 0, self.kept);
+        self.put = put_answer(path, self.image, &mut self.list, &mut self.out, self.put);
+        self.kept = 0;
     }
-}
 
-fn take_byte(
-    rt: &impl Print,
-    err: &impl Print,
-    b: u8,
-    line: &mut [u8; 1025],
-    kept: Kept,
-    image: &[u8],
-    list: &mut PerRecord,
-    out: &mut [u8; 77868],
-) -> Kept {
-    if b == b'\n' {
-        return end_line(rt, err, line, kept, image, list, out);
+    fn take_byte(&mut self, rt: &impl Print, err: &impl Print, b: u8) {
+        if b == b'\n' {
+            self.end_line(rt, err);
+        } else if self.kept < MOST_LINE {
+            self.line[self.kept] = b;
+            self.kept += 1;
+        }
     }
-    Kept {
-        line: keep(line, kept.line, b),
-        out: kept.out,
-        unread: kept.unread,
-    }
-}
 
-fn take_bytes(
-    rt: &impl Print,
-    err: &impl Print,
-    bytes: &[u8],
-    line: &mut [u8; 1025],
-    before: Kept,
-    image: &[u8],
-    list: &mut PerRecord,
-    out: &mut [u8; 77868],
-) -> Kept {
-    let mut kept = before;
-    for i in 0..bytes.len() {
-        kept = take_byte(rt, err, bytes[i], line, kept, image, list, out);
+    fn take_bytes(&mut self, rt: &impl Print, err: &impl Print, bytes: &[u8]) {
+        for b in bytes {
+            self.take_byte(rt, err, *b);
+        }
     }
-    kept
-}
 
-// Answers a last line that has no line feed, and writes out what is left.
-fn finish(
-    rt: &impl Print,
-    err: &impl Print,
-    line: &mut [u8; 1025],
-    kept: Kept,
-    image: &[u8],
-    list: &mut PerRecord,
-    out: &mut [u8; 77868],
-) {
-    let mut last = kept;
-    if 0 < kept.line {
-        last = end_line(rt, err, line, kept, image, list, out);
+    // Answers a last line that has no line feed, and writes out what is left.
+    fn finish(&mut self, rt: &impl Print, err: &impl Print) {
+        if 0 < self.kept {
+            self.end_line(rt, err);
+        }
+        self.flush(rt, err);
     }
-    flush(rt, err, out, last.out, last.unread);
 }
 
 // Answers the paths of a file whose first bytes are read.
@@ -164,30 +112,18 @@ fn answer_lines(
     first: usize,
     image: &[u8],
 ) -> io::Result<()> {
-    let mut line = [0u8; 1025];
-    let mut list = [0u32; MOST_RECORDS];
-    let mut out = [0u8; 77868];
-    let mut kept = nothing_kept();
+    let mut answers = Answers::new(image);
     let mut got = Ok(first);
     for _ in 0..u64::MAX {
         match got {
-            Ok(n) if 0 < n && !kept.unread => {
-                kept = take_bytes(
-                    rt,
-                    err,
-                    part(chunk, 0, n),
-                    &mut line,
-                    kept,
-                    image,
-                    &mut list,
-                    &mut out,
-                );
+            Ok(n) if 0 < n && !answers.unread => {
+                answers.take_bytes(rt, err, part(chunk, 0, n));
                 got = read_some(from, chunk);
             }
             _ => break,
         }
     }
-    finish(rt, err, &mut line, kept, image, &mut list, &mut out);
+    answers.finish(rt, err);
     got?;
     Ok(())
 }

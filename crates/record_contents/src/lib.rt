@@ -26,14 +26,10 @@ fn texts_ok(image: &[u8], r: Layout, from: usize, to: usize) -> bool
     requires { Lying (length image.now) r from to }
     ensures { result ≡ good_texts (record_on image.now r) }
 {
-    let middle = r.middle;
-    if !texts::handle_ok(&image[from..middle]) {
-        return false;
-    }
-    name_ok(image, r.tag, r.middle + HEAD, to)
+    texts::handle_ok(&image[from..r.middle]) && name_ok(image, r.tag, r.middle + HEAD, to)
 }
 
-// Whether the status of a block is 1 or 0, and its first address not above its last.
+// Whether the status of a block is 1 or 0, and its first address not above its last. The width is a constant in each call, for speed.
 fn block_ok(image: &[u8], r: Layout) -> bool
     requires { LaidOut (length image.now) r × (r.tag ≤ as_block) }
     ensures { result ≡ good_block (record_on image.now r) }
@@ -54,10 +50,5 @@ pub fn contents_ok(image: &[u8], r: Layout, from: usize, to: usize) -> bool
     requires { Lying (length image.now) r from to }
     ensures { result ≡ good_contents (record_on image.now r) }
 {
-    if r.tag <= AS_BLOCK {
-        if !block_ok(image, r) {
-            return false;
-        }
-    }
-    texts_ok(image, r, from, to)
+    (AS_BLOCK < r.tag || block_ok(image, r)) && texts_ok(image, r, from, to)
 }

@@ -4,41 +4,35 @@
 ghost use Rattle.std.specs.Prelude.{◌≤◌, length};
 ghost use Rattle.record_judgement.specs.Judging.{Judging};
 
+use fields::Field;
 use record_contents::contents_ok;
 use record_defect::defect_of;
-use record_shape::{Shape, shape_of};
+use record_shape::shape_of;
 use records::Layout;
-use registry::{ENTITY, IPV4_NETWORK};
+use registry::{Defect, ENTITY, IPV4_NETWORK};
 
-// The position of field 22, or the lowest defect.
-#[derive(Clone, Copy)]
-pub enum Judgement {
-    Good(usize),
-    Bad(u32),
-}
-
-// Defects 3 to 5 of the record of the tag from start up to end.
-pub fn judge(image: &[u8], tag: u8, start: usize, end: usize) -> Judgement
-    requires { (start ≤ end) × (end ≤ length image.now) }
-    ensures { Judging image.now tag start end result }
+// The record that a field is: the position of its field 22, or the lowest of the defects 3 to 5.
+pub fn judge(image: &[u8], field: Field) -> Result<usize, Defect>
+    requires { (field.start ≤ field.end) × (field.end ≤ length image.now) }
+    ensures { Judging image.now field.tag field.start field.end result }
 {
-    if tag < IPV4_NETWORK {
-        return Judgement::Bad(3);
+    if field.tag < IPV4_NETWORK {
+        return Err(Defect::BadRecord);
     }
-    if ENTITY < tag {
-        return Judgement::Bad(3);
+    if ENTITY < field.tag {
+        return Err(Defect::BadRecord);
     }
-    let Shape::Whole { from, middle, to } = shape_of(image, tag, start, end) else {
-        return Judgement::Bad(defect_of(image, tag, start, end));
+    let Some(shape) = shape_of(image, field) else {
+        return Err(defect_of(image, field));
     };
-    let r = Layout {
-        tag,
-        start,
-        middle,
-        end,
+    let layout = Layout {
+        tag: field.tag,
+        start: field.start,
+        middle: shape.middle,
+        end: field.end,
     };
-    if !contents_ok(image, r, from, to) {
-        return Judgement::Bad(5);
+    if !contents_ok(image, layout, shape.from, shape.to) {
+        return Err(Defect::BadContents);
     }
-    Judgement::Good(middle)
+    Ok(shape.middle)
 }

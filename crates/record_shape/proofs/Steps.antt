@@ -1,11 +1,13 @@
 -- The steps of a reader of what ends with a record find the fields of a good one, and no others: 21 and 22, and in a block 20 to 23.
-use mathlib.Core.Path.{◌≡◌, refl, ◌∙◌, ap}
+use mathlib.Core.Path.{◌≡◌, refl, sym, ◌∙◌, ap}
 use mathlib.Core.Bool.{Bool, true, false, cond, ◌&&◌}
 use mathlib.Core.List.{List, [], ◌∷◌}
 use Prim.Native.Nat.{ℕ, ◌+◌, ◌-◌, ◌*◌, ◌≤◌, ◌<◌}
 use borrow.Author.Tests.{le-leb, leb-true, eq-eqb, eqb-true}
 use native.Mathlib.Omega.{arith}
 use native.Mathlib.Nat.{le_trans}
+use Rattle.std.specs.Prelude.{Option, Some, None}
+use Rattle.std.proofs.lemmas.Option.{none-some, same_Some}
 use lib.Dec.{leb, eqb}
 use lib.ListN.{length}
 use lib.Seq.{length-slice}
@@ -17,41 +19,35 @@ use Rattle.texts.specs.Texts.{good_text, good_host}
 use Rattle.fields.specs.Positions.{field_at, end_by, end_between}
 use Rattle.fields.specs.Heads.{field-inside}
 use Rattle.fields.specs.declared.Field.{Field}
-use Rattle.fields.specs.declared.Field.TheVariants.{Whole, Short}
-use Rattle.fields.specs.declared.End.{End}
-use Rattle.fields.specs.declared.End.TheVariants.{At, Nothing}
 use Rattle.records.specs.Record.{Record, good_name, good_texts, good_block, good_contents}
 use Rattle.records.specs.Layout.{layout_of, parts_of, record_on, LaidOut}
 use Rattle.records.specs.declared.Layout.{Layout}
 use Rattle.records.proofs.Shapes.{no_block, a_block, Stands, stands, Texts, BlockFields, named-whole, named-fields, block-whole, block-fields, is}
 use Rattle.record_shape.specs.Shaped.{Shaped}
-use Rattle.record_shape.specs.declared.Shape.TheVariants as Shape
 
 module _ (s : List ℕ) (end tag at : ℕ) where
   -- the step to a field of low to high bytes finds it, and finds no other
-  seek : (low high to : ℕ) → Stands s end tag at to → low ≤ to - (at + 3) → to - (at + 3) ≤ high → end_between low high tag (field_at s at end) ≡ At to
+  seek : (low high to : ℕ) → Stands s end tag at to → low ≤ to - (at + 3) → to - (at + 3) ≤ high → end_between low high tag (field_at s at end) ≡ Some to
   unfolding end_by
   seek low high to f l h = rw (f.found, eq-eqb tag tag refl, le-leb low _ l, le-leb _ high h)
 
-  pub reached : (low high to : ℕ) → end_between low high tag (field_at s at end) ≡ At to → Stands s end tag at to × (low ≤ to - (at + 3)) × (to - (at + 3) ≤ high)
+  pub reached : (low high to : ℕ) → end_between low high tag (field_at s at end) ≡ Some to → Stands s end tag at to × (low ≤ to - (at + 3)) × (to - (at + 3) ≤ high)
   unfolding end_by
   reached low high to e = by_field (field_at s at end) refl e
     where
-      by_tests : (t a b : ℕ) → field_at s at end ≡ Whole t a b → (u v w : Bool) → eqb t tag ≡ u → leb low (b - a) ≡ v → leb (b - a) high ≡ w
-          → cond (u && (v && w)) (At b) Nothing ≡ At to → Stands s end tag at to × (low ≤ to - (at + 3)) × (to - (at + 3) ≤ high)
-      by_tests t a b x true true true f g h k =
-          let i : b ≡ to = cc in
-          let j : t ≡ tag = eqb-true t tag f in
-          let y = stands s end tag at a to (rw (j, i) at x) in
-          let z : at + 3 ≡ a = (field-inside s at end t a b x).after in
-          (y, omega (arith, leb-true low _ g), omega (arith, leb-true _ high h))
-      by_tests t a b x true true false f g h k = let z : ◌≡◌ {A = ℕ} 0 1 = cc in absurd (omega arith)
-      by_tests t a b x true false w f g h k = let z : ◌≡◌ {A = ℕ} 0 1 = cc in absurd (omega arith)
-      by_tests t a b x false v w f g h k = let z : ◌≡◌ {A = ℕ} 0 1 = cc in absurd (omega arith)
+      by_tests : (f : Field) → field_at s at end ≡ Some f → (u v w : Bool) → eqb f.tag tag ≡ u → leb low (f.end - f.start) ≡ v → leb (f.end - f.start) high ≡ w
+          → cond (u && (v && w)) (Some f.end) None ≡ Some to → Stands s end tag at to × (low ≤ to - (at + 3)) × (to - (at + 3) ≤ high)
+      by_tests f x true true true g h i k =
+          let j : f.end ≡ to = same_Some _ _ k in
+          let z : at + 3 ≡ f.start = (field-inside s at end f x).after in
+          (rw j at (stands s end tag at f x (eqb-true f.tag tag g)), omega (arith, leb-true low _ h), omega (arith, leb-true _ high i))
+      by_tests f x true true false g h i k = absurd (none-some to k)
+      by_tests f x true false w g h i k = absurd (none-some to k)
+      by_tests f x false v w g h i k = absurd (none-some to k)
 
-      by_field : (f : Field) → field_at s at end ≡ f → end_between low high tag f ≡ At to → Stands s end tag at to × (low ≤ to - (at + 3)) × (to - (at + 3) ≤ high)
-      by_field Short x k = let z : ◌≡◌ {A = ℕ} 0 1 = cc in absurd (omega arith)
-      by_field (Whole t a b) x k = by_tests t a b x (eqb t tag) (leb low (b - a)) (leb (b - a) high) refl refl refl k
+      by_field : (f : Option Field) → field_at s at end ≡ f → end_between low high tag f ≡ Some to → Stands s end tag at to × (low ≤ to - (at + 3)) × (to - (at + 3) ≤ high)
+      by_field None x k = absurd (none-some to k)
+      by_field (Some f) x k = by_tests f x (eqb f.tag tag) (leb low (f.end - f.start)) (leb (f.end - f.start) high) refl refl refl k
 
 -- Steps to fields one after another up to the end: all find theirs, or one does not
 pub record Sought : Type 0 where
@@ -59,22 +55,22 @@ pub record Sought : Type 0 where
   pub high : ℕ
   pub tag : ℕ
 
-abbrev sought : Sought → List ℕ → ℕ → ℕ → End
+abbrev sought : Sought → List ℕ → ℕ → ℕ → Option ℕ
 sought x s at end = end_between x.low x.high x.tag (field_at s at end)
 
 data Goes (s : List ℕ) (end : ℕ) : ℕ → List Sought → Type 0 where
   done : Goes s end end []
-  goes : {at to : ℕ} {x : Sought} {rest : List Sought} → sought x s at end ≡ At to → Goes s end to rest → Goes s end at (x ∷ rest)
+  goes : {at to : ℕ} {x : Sought} {rest : List Sought} → sought x s at end ≡ Some to → Goes s end to rest → Goes s end at (x ∷ rest)
 
 pub data Stops (s : List ℕ) (end : ℕ) : ℕ → List Sought → Type 0 where
-  here : {at : ℕ} {x : Sought} {rest : List Sought} → sought x s at end ≡ Nothing → Stops s end at (x ∷ rest)
-  later : {at to : ℕ} {x : Sought} {rest : List Sought} → sought x s at end ≡ At to → Stops s end to rest → Stops s end at (x ∷ rest)
+  here : {at : ℕ} {x : Sought} {rest : List Sought} → sought x s at end ≡ None → Stops s end at (x ∷ rest)
+  later : {at to : ℕ} {x : Sought} {rest : List Sought} → sought x s at end ≡ Some to → Stops s end to rest → Stops s end at (x ∷ rest)
   over : {at : ℕ} → (at ≡ end → ⊥) → Stops s end at []
 
 not-both : (s : List ℕ) (end at : ℕ) (xs : List Sought) → Stops s end at xs → Goes s end at xs → ⊥
-not-both s end at (x ∷ xs) (here e) (goes f g) = let z : ◌≡◌ {A = ℕ} 0 1 = cc in omega arith
+not-both s end at (x ∷ xs) (here e) (goes f g) = none-some _ (sym e ∙ f)
 not-both s end at (x ∷ xs) (later {to = to} e o) (goes {to = other} f g) =
-    let i : other ≡ to = cc in
+    let i : other ≡ to = same_Some _ _ (sym f ∙ e) in
     not-both s end to xs o (rw i at g)
 not-both s end at [] (over n) done = n refl
 
@@ -98,9 +94,9 @@ block_steps size = exactly size 0x20 ∷ text 0x21 ∷ text 0x22 ∷ status_step
 pub not_last : (s : List ℕ) (end at : ℕ) → at ≤ end → (end - at ≡ 4 → ⊥) → Stops s end at status_steps
 not_last s end at h n = by_end (sought (exactly 1 0x23) s at end) refl
   where
-    by_end : (e : End) → sought (exactly 1 0x23) s at end ≡ e → Stops s end at status_steps
-    by_end Nothing e = here e
-    by_end (At to) e =
+    by_end : (e : Option ℕ) → sought (exactly 1 0x23) s at end ≡ e → Stops s end at status_steps
+    by_end None e = here e
+    by_end (Some to) e =
         let r = reached s end 0x23 at 1 1 to e in
         later e (over {at = to} (λ z. n (omega (arith, z, r.0.forward, r.1, r.2))))
 
@@ -148,14 +144,14 @@ module _ (s : List ℕ) (tag start end : ℕ) (p : start ≤ end) (q : end ≤ l
     })
 
     -- the fields found by the steps
-    pub named-shaped : (middle to : ℕ) → end_between 0 255 0x21 (field_at s start end) ≡ At middle → end_between 0 255 0x22 (field_at s middle end) ≡ At to → to ≡ end
-        → Shaped s tag start end (Shape.Whole (start + 3) middle to)
+    pub named-shaped : (middle to : ℕ) → end_between 0 255 0x21 (field_at s start end) ≡ Some middle → end_between 0 255 0x22 (field_at s middle end) ≡ Some to → to ≡ end
+        → Shaped s tag start end (Some (record { from = start + 3; middle = middle; to = to }))
     named-shaped middle to h n z =
         let t : Texts s end start end middle = record { handle = (reached s end 0x21 start 0 255 middle h).0; name = rw z at (reached s end 0x22 middle 0 255 to n).0 } in
         (named-whole s tag start end q (no_block tag k) middle t, record { laid = named-laid middle t; handle = rw (no_block tag k); name = rw (no_block tag k) z })
 
     -- a step that finds none refutes every good record
-    pub named-refused : Stops s end start named_steps → Shaped s tag start end Shape.Malformed
+    pub named-refused : Stops s end start named_steps → Shaped s tag start end None
     named-refused o r e =
         let x = named-fields s tag start end q (no_block tag k) r p e in
         let m = x.at in
@@ -179,9 +175,9 @@ module _ (s : List ℕ) (tag start end : ℕ) (p : start ≤ end) (q : end ≤ l
           absent = λ z. absurd (omega (arith, z));
         })
 
-    pub block-shaped : (at middle to last : ℕ) → end_between size size 0x20 (field_at s start end) ≡ At at → end_between 0 255 0x21 (field_at s at end) ≡ At middle
-        → end_between 0 255 0x22 (field_at s middle end) ≡ At to → end_between 1 1 0x23 (field_at s to end) ≡ At last → end - to ≡ 4
-        → Shaped s tag start end (Shape.Whole (at + 3) middle to)
+    pub block-shaped : (at middle to last : ℕ) → end_between size size 0x20 (field_at s start end) ≡ Some at → end_between 0 255 0x21 (field_at s at end) ≡ Some middle
+        → end_between 0 255 0x22 (field_at s middle end) ≡ Some to → end_between 1 1 0x23 (field_at s to end) ≡ Some last → end - to ≡ 4
+        → Shaped s tag start end (Some (record { from = at + 3; middle = middle; to = to }))
     block-shaped at middle to last g h n u y =
         let a = reached s end 0x20 start size size at g in
         let b = reached s end 0x23 to 1 1 last u in
@@ -196,7 +192,7 @@ module _ (s : List ℕ) (tag start end : ℕ) (p : start ≤ end) (q : end ≤ l
         let e : at + 3 ≡ start + 6 + size = omega arith in
         (block-whole s tag start end q (a_block tag k l) size w middle f, record { laid = block-laid middle f; handle = rw (a_block tag k l, ← w) e; name = rw (a_block tag k l) d })
 
-    pub block_refused : Stops s end start (block_steps size) → Shaped s tag start end Shape.Malformed
+    pub block_refused : Stops s end start (block_steps size) → Shaped s tag start end None
     block_refused o r e =
         let x = block-fields s tag start end q (a_block tag k l) size w r p e in
         let m = x.at in

@@ -6,23 +6,20 @@ ghost use Rattle.registry.specs.Tags.{width_of, as_block, entity, ipv4_network};
 ghost use Rattle.fields.specs.Positions.{field_at, end_between};
 ghost use Rattle.record_shape.specs.Shaped.{Shaped};
 
-use fields::End;
+use fields::Field;
 use reader::read_to;
 use registry::{AS_BLOCK, HEAD, IPV6_NETWORK};
 
 // Where the fields of a record lie: the contents of field 21 from `from` up to middle, where field 22 starts, which ends at `to`.
 #[derive(Clone, Copy)]
-pub enum Shape {
-    Whole {
-        from: usize,
-        middle: usize,
-        to: usize,
-    },
-    Malformed,
+pub struct Shape {
+    pub from: usize,
+    pub middle: usize,
+    pub to: usize,
 }
 
 // The reader of what ends at `end` steps to a field of the tag that has from low to high bytes.
-fn step(image: &[u8], end: usize, at: usize, tag: u8, low: u8, high: u8) -> End
+fn step(image: &[u8], end: usize, at: usize, tag: u8, low: u8, high: u8) -> Option<usize>
     requires { end ≤ length image.now }
     ensures { result ≡ end_between low high tag (field_at image.now at end) }
 {
@@ -31,63 +28,51 @@ fn step(image: &[u8], end: usize, at: usize, tag: u8, low: u8, high: u8) -> End
 }
 
 // Field 20 of `size` bytes, then 21 and 22 of at most 255 bytes, then field 23 of one byte, four bytes before the end.
-fn sized_shape(image: &[u8], tag: u8, start: usize, end: usize, size: u8) -> Shape
-    requires { (start ≤ end) × (end ≤ length image.now) × (ipv4_network ≤ tag) × (tag ≤ as_block) × (size ≡ 2 * width_of tag) }
-    ensures { Shaped image.now tag start end result }
+fn sized_shape(image: &[u8], field: Field, size: u8) -> Option<Shape>
+    requires { (field.start ≤ field.end) × (field.end ≤ length image.now) × (ipv4_network ≤ field.tag) × (field.tag ≤ as_block) × (size ≡ 2 * width_of field.tag) }
+    ensures { Shaped image.now field.tag field.start field.end result }
 {
-    let End::At(at) = step(image, end, start, 0x20, size, size) else {
-        return Shape::Malformed;
-    };
-    let End::At(middle) = step(image, end, at, 0x21, 0, 255) else {
-        return Shape::Malformed;
-    };
-    let End::At(to) = step(image, end, middle, 0x22, 0, 255) else {
-        return Shape::Malformed;
-    };
-    if end - to != 4 {
-        return Shape::Malformed;
+    let at = step(image, field.end, field.start, 0x20, size, size)?;
+    let middle = step(image, field.end, at, 0x21, 0, 255)?;
+    let to = step(image, field.end, middle, 0x22, 0, 255)?;
+    if field.end - to != 4 {
+        return None;
     }
-    let End::At(_) = step(image, end, to, 0x23, 1, 1) else {
-        return Shape::Malformed;
-    };
-    Shape::Whole {
+    step(image, field.end, to, 0x23, 1, 1)?;
+    Some(Shape {
         from: at + HEAD,
         middle,
         to,
-    }
+    })
 }
 
 // The fields of a block. The size of field 20 is a constant in each call.
-fn block_shape(image: &[u8], tag: u8, start: usize, end: usize) -> Shape
-    requires { (start ≤ end) × (end ≤ length image.now) × (ipv4_network ≤ tag) × (tag ≤ as_block) }
-    ensures { Shaped image.now tag start end result }
+fn block_shape(image: &[u8], field: Field) -> Option<Shape>
+    requires { (field.start ≤ field.end) × (field.end ≤ length image.now) × (ipv4_network ≤ field.tag) × (field.tag ≤ as_block) }
+    ensures { Shaped image.now field.tag field.start field.end result }
 {
-    if tag == IPV6_NETWORK {
-        return sized_shape(image, tag, start, end, 32);
+    if field.tag == IPV6_NETWORK {
+        return sized_shape(image, field, 32);
     }
-    sized_shape(image, tag, start, end, 8)
+    sized_shape(image, field, 8)
 }
 
 // The fields of a record of a known tag, one after another, if its texts have at most 255 bytes: no other record is good.
-pub fn shape_of(image: &[u8], tag: u8, start: usize, end: usize) -> Shape
-    requires { (start ≤ end) × (end ≤ length image.now) × (ipv4_network ≤ tag) × (tag ≤ entity) }
-    ensures { Shaped image.now tag start end result }
+pub fn shape_of(image: &[u8], field: Field) -> Option<Shape>
+    requires { (field.start ≤ field.end) × (field.end ≤ length image.now) × (ipv4_network ≤ field.tag) × (field.tag ≤ entity) }
+    ensures { Shaped image.now field.tag field.start field.end result }
 {
-    if tag <= AS_BLOCK {
-        return block_shape(image, tag, start, end);
+    if field.tag <= AS_BLOCK {
+        return block_shape(image, field);
     }
-    let End::At(middle) = step(image, end, start, 0x21, 0, 255) else {
-        return Shape::Malformed;
-    };
-    let End::At(to) = step(image, end, middle, 0x22, 0, 255) else {
-        return Shape::Malformed;
-    };
-    if to != end {
-        return Shape::Malformed;
+    let middle = step(image, field.end, field.start, 0x21, 0, 255)?;
+    let to = step(image, field.end, middle, 0x22, 0, 255)?;
+    if to != field.end {
+        return None;
     }
-    Shape::Whole {
-        from: start + HEAD,
+    Some(Shape {
+        from: field.start + HEAD,
         middle,
         to,
-    }
+    })
 }

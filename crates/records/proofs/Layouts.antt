@@ -4,7 +4,8 @@ use mathlib.Core.Bool.{Bool, true, false, cond}
 use Prim.Native.Nat.{ℕ, ◌+◌}
 use Rattle.registry.specs.Tags.{is_block}
 use Rattle.records.specs.Positions.{Parts}
-use Rattle.records.specs.Layout.{parts_of}
+use Rattle.records.specs.Layout.{parts_of, span_from_to}
+use Rattle.records.specs.declared.Span.{Span}
 use Rattle.records.specs.declared.Layout.{Layout}
 
 either : (f : Parts → ℕ) (x : ℕ) (v : Bool) (a b : Parts) → x ≡ f a → x ≡ f b → x ≡ f (cond v a b)
@@ -17,3 +18,7 @@ module _ (l : Layout) where
 
   pub name-start : l.middle + 3 ≡ (parts_of l).name.start
   name-start = either (λ (p : Parts). p.name.start) (l.middle + 3) (is_block l.tag) _ _ refl refl
+
+-- the span that has no positions
+pub no-span : {x : Span} → (x.start ≡ 0) × (x.end ≡ 0) → x ≡ span_from_to 0 0
+no-span e = λ j. record { start = e.0 j; end = e.1 j }

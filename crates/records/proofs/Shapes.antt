@@ -6,14 +6,14 @@ use Prim.Native.Nat.{ℕ, ◌+◌, ◌-◌, ◌*◌, ◌≤◌, ◌<◌}
 use borrow.Author.Tests.{le-leb, lt-leb, eq-eqb, eqb-true}
 use native.Mathlib.Omega.{arith}
 use native.Mathlib.Nat.{le_trans}
+use Rattle.std.specs.Prelude.{Option, Some, None}
 use lib.Dec.{eqb}
 use lib.ListN.{length}
 use lib.Seq.{slice, slice_empty, length-slice}
 use Rattle.registry.specs.Tags.{is_block, width_of}
-use Rattle.fields.specs.Positions.{field_at, head_at}
+use Rattle.fields.specs.Positions.{field_at, field_of, head_at}
 use Rattle.fields.specs.Heads.{head-slice, field-inside}
 use Rattle.fields.specs.declared.Field.{Field}
-use Rattle.fields.specs.declared.Field.TheVariants.{Whole, Short}
 use Rattle.records.specs.Record.{Record, Parsed, whole, malformed, following, starting, ending, record_of}
 use Rattle.records.specs.Layout.{layout_of, record_on}
 
@@ -25,15 +25,16 @@ a_block tag h k = rw (le-leb 0x10 tag h, le-leb tag 0x12 k)
 
 -- a field of the tag stands at a position of what ends at `end`, and ends at `to`
 pub record Stands (s : List ℕ) (end tag at to : ℕ) : Type 0 where
-  pub found : field_at s at end ≡ Whole tag (at + 3) to
+  pub found : field_at s at end ≡ Some (field_of tag (at + 3) to)
   pub forward : at + 3 ≤ to
   pub within : to ≤ end
 
 module _ (s : List ℕ) (end tag at : ℕ) where
-  pub stands : (from to : ℕ) → field_at s at end ≡ Whole tag from to → Stands s end tag at to
-  stands from to e =
-      let i = field-inside s at end tag from to e in
-      record { found = rw i.after e; forward = omega arith; within = i.within }
+  pub stands : (f : Field) → field_at s at end ≡ Some f → f.tag ≡ tag → Stands s end tag at f.end
+  stands f e h =
+      let i = field-inside s at end f e in
+      let x : f ≡ field_of tag (at + 3) f.end = rw (i.after, ← h) in
+      record { found = rw x at e; forward = omega arith; within = i.within }
 
   step : end ≤ length s → (to : ℕ) → Stands s end tag at to → (next : List ℕ → List ℕ → Parsed)
       → starting tag (slice at end s) next ≡ next (slice (at + 3) to s) (slice to end s)
@@ -52,17 +53,16 @@ module _ (s : List ℕ) (end : ℕ) (q : end ≤ length s) (r : Record) where
   started : (at tag : ℕ) (next : List ℕ → List ℕ → Parsed) → at ≤ end → starting tag (slice at end s) next ≡ whole r → Started s at end tag next r
   started at tag next p e = by_field (field_at s at end) refl (rw (← head-slice s at end p q) at e)
     where
-      by-tag : (t a b : ℕ) → field_at s at end ≡ Whole t a b → (u : Bool) → eqb t tag ≡ u → cond u (next (slice a b s) (slice b end s)) malformed ≡ whole r
-          → Started s at end tag next r
-      by-tag t a b x true f k =
-          let j : t ≡ tag = eqb-true t tag f in
-          let z : at + 3 ≡ a = (field-inside s at end t a b x).after in
-          record { to = b; here = stands s end tag at a b (rw j at x); onward = rw z k }
-      by-tag t a b x false f k = absurd (not-whole r k)
+      by-tag : (f : Field) → field_at s at end ≡ Some f → (u : Bool) → eqb f.tag tag ≡ u
+          → cond u (next (slice f.start f.end s) (slice f.end end s)) malformed ≡ whole r → Started s at end tag next r
+      by-tag f x true h k =
+          let z : at + 3 ≡ f.start = (field-inside s at end f x).after in
+          record { to = f.end; here = stands s end tag at f x (eqb-true f.tag tag h); onward = rw z k }
+      by-tag f x false h k = absurd (not-whole r k)
 
-      by_field : (f : Field) → field_at s at end ≡ f → following (head_at s end f) tag next ≡ whole r → Started s at end tag next r
-      by_field Short x k = absurd (not-whole r k)
-      by_field (Whole t a b) x k = by-tag t a b x (eqb t tag) refl k
+      by_field : (f : Option Field) → field_at s at end ≡ f → following (head_at s end f) tag next ≡ whole r → Started s at end tag next r
+      by_field None x k = absurd (not-whole r k)
+      by_field (Some f) x k = by-tag f x (eqb f.tag tag) refl k
 
 -- nothing comes after the last field
 ends : (s : List ℕ) (end : ℕ) (p : Parsed) → ending (slice end end s) p ≡ p

@@ -1,10 +1,9 @@
 -- Serves contracts and proofs. What the code answers about one record, in positions of the image.
-use Rattle.std.specs.Prelude.{cond, ◌≡◌, List, [], ◌∷◌, ℕ, ◌-◌, ◌*◌, ◌≤◌, ◌<◌, eqb}
+use Rattle.std.specs.Prelude.{cond, ◌≡◌, List, [], ◌∷◌, ℕ, ◌-◌, ◌*◌, ◌≤◌, ◌<◌, eqb, Option, Some, None}
 use Rattle.std.proofs.Math.Seq.{slice}
 use Rattle.registry.specs.Tags.{is_block, width_of, as_block, ipv4_network}
 use Rattle.fields.specs.Positions.{field_after}
 use Rattle.fields.specs.declared.Field.{Field}
-use Rattle.fields.specs.declared.Field.TheVariants.{Whole, Short}
 use Rattle.records.specs.Record.{Record}
 use Rattle.records.specs.declared.Span.{Span}
 
@@ -41,9 +40,9 @@ pub record Placed (tag end : ℕ) (p : Parts) : Type 0 where
 -- field 22 comes after that
 
 -- the contents of a field
-abbrev pub span_from : Field → Span
-span_from (Whole tag from to) = record { start = from; end = to }
-span_from Short = record { start = 0; end = 0 }
+abbrev pub span_from : Option Field → Span
+span_from (Some f) = record { start = f.start; end = f.end }
+span_from None = record { start = 0; end = 0 }
 
 -- the contents of the field n fields on from a position, in what ends at `end`
 abbrev pub inner_span : List ℕ → ℕ → ℕ → ℕ → Span

@@ -1,3 +1,3 @@
 pub mod Limits
 pub mod Tags
-pub mod Source
+pub mod Defects

@@ -3,6 +3,7 @@
 
 ghost use Rattle.std.specs.Prelude.{◌≡◌, ◌≤◌};
 ghost use Rattle.registry.specs.Tags.{width_of};
+ghost use Rattle.registry.specs.Defects.{defect_number};
 
 // The tags of records (S4.3). Those up to the AS block are blocks.
 pub const IPV4_NETWORK: u8 = 0x10;
@@ -65,6 +66,42 @@ pub enum Relation {
     Down,
     Top,
     Bottom,
+}
+
+// What is wrong with an image (S5.1), by its number.
+#[derive(Clone, Copy, Debug, PartialEq, Eq)]
+pub enum Defect {
+    TooLong = 1,
+    BadStart = 2,
+    BadRecord = 3,
+    BadFields = 4,
+    BadContents = 5,
+    Unsorted = 6,
+    Crossing = 7,
+}
+
+impl Defect {
+    pub fn number(self) -> u32
+        ensures { result ≡ defect_number self }
+    {
+        self as u32
+    }
+
+    pub fn at(self, place: u32) -> Flaw
+        ensures { result ≡ record { defect = self; place = place } }
+    {
+        Flaw {
+            defect: self,
+            place,
+        }
+    }
+}
+
+// A defect, and the number of the record that has it; 0 where it is the image's (S5.2).
+#[derive(Clone, Copy, Debug, PartialEq, Eq)]
+pub struct Flaw {
+    pub defect: Defect,
+    pub place: u32,
 }
 
 // The bytes of an address or number of a block.

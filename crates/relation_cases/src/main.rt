@@ -4,12 +4,13 @@
 // All are asked of the image in the file `campus.image`.
 #![tactic(auto)]
 
-ghost use Rattle.std.specs.Prelude.{◌<◌};
-
 use files::{fail, part, read_full};
 use registry::{MOST_RECORDS, PerRecord, Relation};
 use std::fs;
 use std::rt::Files;
+
+// The bytes of a case.
+const CASE: usize = 7;
 
 fn number(rt: &impl Print, n: u32) {
     let _ = rt.print(n);
@@ -22,25 +23,18 @@ fn next_number(rt: &impl Print, n: u32) {
 
 // The first record numbers of the list, so many.
 fn records(rt: &impl Print, list: &[u32], count: usize) {
-    for i in 0..list.len() {
-        if count <= i {
-            return;
-        }
-        next_number(rt, list[i]);
+    for n in list.iter().take(count) {
+        next_number(rt, *n);
     }
 }
 
 fn ask(rt: &impl Print, image: &[u8], record: u32, relation: Relation, list: &mut [u32]) {
     let a = rdap::relation(image, record, relation, list);
-    let kind = a.kind;
-    let reason = a.reason;
-    let count = a.count;
-    number(rt, a.status);
-    next_number(rt, reason);
-    next_number(rt, kinds::kind_number(kind));
-    next_number(rt, count);
-    let found = if reason == 0 { count } else { 0 };
-    records(rt, list, found as usize);
+    number(rt, a.reason.status());
+    next_number(rt, a.reason.number());
+    next_number(rt, kinds::kind_number(a.kind));
+    next_number(rt, a.count);
+    records(rt, list, answers::reports(a) as usize);
     let _ = rt.write_all(b"\n");
 }
 
@@ -53,8 +47,8 @@ fn ask_with(
     list: &mut [u32],
     room: usize,
 ) {
-    if room <= list.len() {
-        ask(rt, image, record, relation, &mut list[..room]);
+    if let Some(places) = list.get_mut(..room) {
+        ask(rt, image, record, relation, places);
     }
 }
 
@@ -67,28 +61,24 @@ fn relation_of(n: u8) -> Relation {
     }
 }
 
-fn wide(b: u8) -> u32
-    ensures { result < 256 }
-{
-    b as u32
-}
-
 fn run_case(rt: &impl Print, image: &[u8], case: &[u8], list: &mut [u32]) {
-    if case.len() < 7 {
-        return;
+    if let [a, b, c, d, relation, high, low] = case {
+        let record = u32::from_be_bytes([*a, *b, *c, *d]);
+        let room = u16::from_be_bytes([*high, *low]);
+        ask_with(
+            rt,
+            image,
+            record,
+            relation_of(*relation),
+            list,
+            usize::from(room),
+        );
     }
-    let high = wide(case[0]) * 256 + wide(case[1]);
-    let low = wide(case[2]) * 256 + wide(case[3]);
-    let record = high * 65536 + low;
-    let room = wide(case[5]) * 256 + wide(case[6]);
-    ask_with(rt, image, record, relation_of(case[4]), list, room as usize);
 }
 
 fn run_cases(rt: &impl Print, image: &[u8], cases: &[u8], list: &mut [u32]) {
-    let mut rest = cases;
-    while 7 <= rest.len() {
-        run_case(rt, image, rest, list);
-        rest = &rest[7..];
+    for case in cases.chunks_exact(CASE) {
+        run_case(rt, image, case, list);
     }
 }
 

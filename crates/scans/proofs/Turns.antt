@@ -27,9 +27,9 @@ use Rattle.scans.specs.declared.Around.TheVariants.{Lookup, Up, Top}
 use Rattle.scans.specs.Standing.{blocks_in, Searchable}
 use Rattle.containment.specs.Tests.{surrounds_by, free_after, keeps_from}
 use Rattle.scans.specs.Passing.{strict_by, first_by, passing}
-use Rattle.output.specs.Listing.{found_numbers}
-use Rattle.output.specs.declared.Found.{Found}
-use Rattle.output.specs.declared.Found.TheVariants.{At, Nothing}
+use Rattle.std.specs.Prelude as Prelude
+use Rattle.std.specs.Prelude.{Option, Some}
+use Rattle.std.specs.Option.{option_to_list}
 use Rattle.scans.proofs.Walks.{blocks_left, asked-accepted, asked-proper, Here, next-left, run-laminar}
 use Rattle.scans.proofs.Ends.{none-around, none_inside, down-none, any_none}
 use Rattle.output.proofs.Emit.{one_more}
@@ -50,20 +50,20 @@ pub run-scan : {s starts : List ℕ} {blocks : Run} {range : AddressRange} → S
 run-scan a which e f = rw (e, f) (around-scan which _ (asked-accepted a) _ (asked-proper a))
 
 -- before the blocks bs: what the pass finds from here on is R. Before the first block there is nothing.
-pub record Passing (first : Bool) (p : Block → Bool) (bs : List Block) (best : Found) (R : List ℕ) : Type 0 where
-  pub none_yet : first ≡ true → found_numbers best ≡ []
-  pub rest : passing first p bs (found_numbers best) ≡ R
+pub record Passing (first : Bool) (p : Block → Bool) (bs : List Block) (best : Option ℕ) (R : List ℕ) : Type 0 where
+  pub none_yet : first ≡ true → option_to_list best ≡ []
+  pub rest : passing first p bs (option_to_list best) ≡ R
 
-pub at_first : (first : Bool) (p : Block → Bool) (bs : List Block) → Passing first p bs Nothing (passing first p bs [])
+pub at_first : (first : Bool) (p : Block → Bool) (bs : List Block) → Passing first p bs Prelude.None (passing first p bs [])
 at_first first p bs = record { none_yet = λ f. refl; rest = refl }
 
 -- no block is left that passes
-pub none_more : (first : Bool) (p : Block → Bool) (bs : List Block) {best : Found} {R : List ℕ} → None p bs → Passing first p bs best R → found_numbers best ≡ R
+pub none_more : (first : Bool) (p : Block → Bool) (bs : List Block) {best : Option ℕ} {R : List ℕ} → None p bs → Passing first p bs best R → option_to_list best ≡ R
 none_more true p bs n r = r.none_yet refl ∙ sym (first-none p bs n) ∙ r.rest
-none_more false p bs {best} n r = sym (last_none p bs (found_numbers best) n) ∙ r.rest
+none_more false p bs {best} n r = sym (last_none p bs (option_to_list best) n) ∙ r.rest
 
 -- no block is left
-pub at-end : (first : Bool) {p : Block → Bool} {best : Found} {R : List ℕ} → Passing first p [] best R → found_numbers best ≡ R
+pub at-end : (first : Bool) {p : Block → Bool} {best : Option ℕ} {R : List ℕ} → Passing first p [] best R → option_to_list best ≡ R
 at-end true r = r.none_yet refl ∙ r.rest
 at-end false r = r.rest
 
@@ -109,22 +109,22 @@ module _ {s starts : List ℕ} {blocks : Run} {range : AddressRange} {i at w : �
         ∙ ap (λ (u : Bool). last_passing test (blocks_left s blocks.low (i + 1)) (cond u (i ∷ []) best)) (sym t)
 
     -- at a block that passes: the first, or the best so far
-    pub first_found : v ≡ true → {first : Bool} {best : Found} {R : List ℕ} → first ≡ true → Passing first test (blocks_left s blocks.low i) best R → i ∷ [] ≡ R
+    pub first_found : v ≡ true → {first : Bool} {best : Option ℕ} {R : List ℕ} → first ≡ true → Passing first test (blocks_left s blocks.low i) best R → i ∷ [] ≡ R
     first_found f e r = rw (e, next-left h, sym t ∙ f) at r.rest
 
-    pub last_found : v ≡ true → {first : Bool} (best : Found) {best' : Found} {R : List ℕ} → first ≡ false → best' ≡ At i
+    pub last_found : v ≡ true → {first : Bool} (best : Option ℕ) {best' : Option ℕ} {R : List ℕ} → first ≡ false → best' ≡ Some i
         → Passing first test (blocks_left s blocks.low i) best R → Passing first test (blocks_left s blocks.low (i + 1)) best' R
     last_found f best e g r =
         record {
           none_yet = λ k. absurd (let z : ◌≡◌ {A = ℕ} 0 1 = cc in omega arith);
-          rest = rw (g, e) (sym (rw f at (last_turn (found_numbers best))) ∙ (rw e at r.rest));
+          rest = rw (g, e) (sym (rw f at (last_turn (option_to_list best))) ∙ (rw e at r.rest));
         }
 
     -- at one that does not
-    pub around_missed : v ≡ false → (first : Bool) (best : Found) {best' : Found} {R : List ℕ} → best' ≡ best
+    pub around_missed : v ≡ false → (first : Bool) (best : Option ℕ) {best' : Option ℕ} {R : List ℕ} → best' ≡ best
         → Passing first test (blocks_left s blocks.low i) best R → Passing first test (blocks_left s blocks.low (i + 1)) best' R
     around_missed f true best g r = rw g (record { none_yet = r.none_yet; rest = rw (next-left h, sym t ∙ f) at r.rest })
-    around_missed f false best g r = rw g (record { none_yet = r.none_yet; rest = sym (rw f at (last_turn (found_numbers best))) ∙ r.rest })
+    around_missed f false best g r = rw g (record { none_yet = r.none_yet; rest = sym (rw f at (last_turn (option_to_list best))) ∙ r.rest })
 
   module _ (n k : ℕ) {v : Bool} (t : v ≡ keeps_from (free_after n k) (range_in s at w) (numbers range))
       (hits : List ℕ) (z : length hits ≡ 4096) {R : List ℕ}

@@ -3,6 +3,7 @@
 #![tactic(auto)]
 
 ghost use Rattle.std.specs.Prelude.{◌≡◌, ◌+◌, ◌≤◌, ◌<◌, length, get_or};
+ghost use Rattle.std.specs.Option.{option_to_list};
 ghost use Rattle.registry.specs.Tags.{range_offset};
 ghost use Rattle.registry.specs.Limits.{most_image, most_records};
 ghost use Rattle.octets.specs.Lists.{any as any_of};
@@ -11,13 +12,12 @@ ghost use Rattle.address.specs.Ranges.{strictly_inside};
 ghost use Rattle.forest.specs.Relations.{down as down_of};
 ghost use Rattle.scans.specs.Around.{around_in};
 ghost use Rattle.scans.specs.Standing.{blocks_in, Searchable};
-ghost use Rattle.output.specs.Listing.{found_numbers, Collected};
+ghost use Rattle.output.specs.Listing.{Collected};
 ghost use Rattle.scans.specs.Passing.{strict_by, first_by};
 
 use address::{AddressRange, at_least_at};
 use containment::{keeps, strictly_inside, surrounds};
 use image::Run;
-use output::Found;
 use registry::{PerRecord, RANGE_OFFSET};
 
 // Where the range of a block starts, by its record number.
@@ -36,25 +36,19 @@ pub enum Around {
     Top,
 }
 
-// Whether it is strictly around the range.
-fn is_strict(which: Around) -> bool
-    ensures { result ≡ strict_by which }
-{
-    match which {
-        Around::Lookup => false,
-        Around::Up => true,
-        Around::Top => true,
+impl Around {
+    // Whether it has to be strictly around the range.
+    fn is_strict(self) -> bool
+        ensures { result ≡ strict_by self }
+    {
+        matches!(self, Around::Up | Around::Top)
     }
-}
 
-// Whether it is the first such block.
-fn is_first(which: Around) -> bool
-    ensures { result ≡ first_by which }
-{
-    match which {
-        Around::Lookup => false,
-        Around::Up => false,
-        Around::Top => true,
+    // Whether it is the first such block.
+    fn is_first(self) -> bool
+        ensures { result ≡ first_by self }
+    {
+        matches!(self, Around::Top)
     }
 }
 
@@ -65,27 +59,25 @@ pub fn find_around(
     blocks: Run,
     range: AddressRange,
     which: Around,
-) -> Found
+) -> Option<u32>
     requires { Searchable image.now starts.now blocks range }
-    ensures { found_numbers result ≡ around_in which (blocks_in image.now blocks.low) (numbers range) }
+    ensures { option_to_list result ≡ around_in which (blocks_in image.now blocks.low) (numbers range) }
 {
     let width = registry::width_of(blocks.low);
-    let strict = is_strict(which);
-    let first = is_first(which);
-    let mut found = Found::Nothing;
-    let mut i = blocks.from;
-    while i < blocks.until {
+    let strict = which.is_strict();
+    let first = which.is_first();
+    let mut found = None;
+    for i in blocks.from..blocks.until {
         let at = range_start(starts, i);
         if !at_least_at(range.first, image, at, width) {
             return found;
         }
         if surrounds(image, at, width, range, strict) {
             if first {
-                return Found::At(i);
+                return Some(i);
             }
-            found = Found::At(i);
+            found = Some(i);
         }
-        i += 1;
     }
     found
 }
@@ -104,8 +96,7 @@ pub fn children(
     let width = registry::width_of(blocks.low);
     let mut n: usize = 0;
     let mut kept: usize = 0;
-    let mut i = blocks.from;
-    while i < blocks.until {
+    for i in blocks.from..blocks.until {
         let at = range_start(starts, i);
         if !at_least_at(range.last, image, at, width) {
             return n;
@@ -115,7 +106,6 @@ pub fn children(
             n += 1;
             kept = at;
         }
-        i += 1;
     }
     n
 }
@@ -126,8 +116,7 @@ pub fn any_inside(image: &[u8], starts: &PerRecord, blocks: Run, range: AddressR
     ensures { result ≡ any_of (λ b. strictly_inside b.range (numbers range)) (blocks_in image.now blocks.low) }
 {
     let width = registry::width_of(blocks.low);
-    let mut i = blocks.from;
-    while i < blocks.until {
+    for i in blocks.from..blocks.until {
         let start = range_start(starts, i);
         if !at_least_at(range.last, image, start, width) {
             return false;
@@ -135,7 +124,6 @@ pub fn any_inside(image: &[u8], starts: &PerRecord, blocks: Run, range: AddressR
         if strictly_inside(image, start, width, range) {
             return true;
         }
-        i += 1;
     }
     false
 }

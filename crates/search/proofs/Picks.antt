@@ -1,4 +1,5 @@
 -- A walk over the records of a run: the test of one record, and what is still to be found.
+use Rattle.std.specs.Prelude.{Result}
 use Prim.Native.Nat.{ℕ, ◌+◌, ◌≤◌, ◌<◌}
 use mathlib.Core.Bool.{Bool, true, false, ◌&&◌}
 use mathlib.Core.Path.{◌≡◌, refl, sym, ap, ◌∙◌}
@@ -23,13 +24,13 @@ use Rattle.image.proofs.Soundness.{counted, few-records, few_bytes}
 use Rattle.halves.proofs.Halves.{carried}
 use Rattle.entries.proofs.Standing.{standing_of, contents_in_image, start-inside}
 use Rattle.output.specs.Listing.{Reported}
-use Rattle.output.specs.declared.Listed.{Listed}
+use Rattle.output.specs.declared.NoRoom.{NoRoom}
 use Rattle.search.specs.Search.{numbers_from, which_of, field_of, is_match}
 use Rattle.search.specs.Picks.{text_at, picks_record, picked_in, matching_in}
 
 -- a search by pattern: the part that the text is, and case folded as it asks
 pub matched :
-    (run : Run) (text : Text) (form : Form) (pattern s : List ℕ) {fold : Bool} → fold ≡ folds_case text → {which : Part} → which ≡ which_of text → {list after : List ℕ} {r : Listed}
+    (run : Run) (text : Text) (form : Form) (pattern s : List ℕ) {fold : Bool} → fold ≡ folds_case text → {which : Part} → which ≡ which_of text → {list after : List ℕ} {r : Result ℕ NoRoom}
     → Reported (picked_in s run which fold form pattern) list after r → Reported (matching_in s run text form pattern) list after r
 unfolding is_match field_of
 matched run text form pattern s e f p = rw (e, f) at p

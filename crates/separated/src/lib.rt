@@ -4,25 +4,10 @@
 ghost use Rattle.std.specs.Prelude.{[], ◌∷◌, ◌≤◌, length};
 ghost use Rattle.numeral.specs.Digits.{numeral_text, following, spelled};
 ghost use Rattle.output.specs.Writing.{Written};
-ghost use Rattle.separated.specs.Base.{radix};
+ghost use Rattle.digits.specs.Base.{radix};
 
-use digits::{put_decimal, put_hex};
-
-#[derive(Clone, Copy)]
-pub enum Base {
-    Decimal,
-    Hex,
-}
-
-fn put_number(base: Base, n: u32, text: &mut [u8]) -> usize
-    requires { length (numeral_text (radix base) n) ≤ length text.old }
-    ensures { Written (numeral_text (radix base) n) text.old text.new result }
-{
-    match base {
-        Base::Decimal => put_decimal(n, text),
-        Base::Hex => put_hex(n, text),
-    }
-}
+pub use digits::Base;
+use digits::put_number;
 
 // A separator and a number.
 fn put_next(sep: u8, base: Base, n: u32, text: &mut [u8]) -> usize
@@ -39,8 +24,8 @@ pub fn put_following(sep: u8, base: Base, numbers: &[u32], text: &mut [u8]) -> u
     ensures { Written (following sep (radix base) numbers.now) text.old text.new result }
 {
     let mut at: usize = 0;
-    for i in 0..numbers.len() {
-        at += put_next(sep, base, numbers[i], &mut text[at..]);
+    for n in numbers {
+        at += put_next(sep, base, *n, &mut text[at..]);
     }
     at
 }

@@ -9,6 +9,8 @@ use Rattle.fields.specs.Slices.{take-slice, drop-slice}
 use Rattle.output.specs.Writing.{Written}
 use Rattle.output.proofs.Writing.{Parted}
 use Rattle.merged.specs.Held.{field_bytes, bytes_at, row_at}
+use Rattle.merged.specs.Listed.{bytes_of_number}
+use Rattle.merged.specs.declared.Records.{Records}
 use Rattle.merged.proofs.Fields.{ended, start-image}
 use Rattle.stretches.specs.Stretches.{Stretched, PutNext}
 use Rattle.stretches.proofs.Rows.{next_record}
@@ -25,13 +27,15 @@ slices a b c s h k =
 pub part-short : {rest part left : List ℕ} → Parted rest part left → {m : ℕ} → length rest ≤ m → length part ≤ m
 part-short {part = part} {left} p h = omega (arith, ap length p.is, length-append part left)
 
-module _ {image changes starts : List ℕ} {i from end until : ℕ} (s : Stretched image changes starts i from end until) where
-  pub parted : Parted (row_at image changes (drop i starts)) (slice from end image) (row_at image changes (drop until starts))
-  parted = record { is = s.joined }
-
-  pub put_stretch : {before after : List ℕ} {size : ℕ} → Written (slice from end image) before after size
-      → PutNext image changes starts i before after (record { size = size; until = until })
-  put_stretch w = record { some = s.some; few = s.few; bytes = slice from end image; joined = s.joined; written = w }
+pub put_record : (records : Records) {i : ℕ} → i < records.count → {before after : List ℕ} {size : ℕ} → Written (bytes_of_number records i) before after size
+    → PutNext records i before after (record { size = size; until = i + 1 })
+put_record records {i} l w = record {
+  some = omega arith;
+  few = omega arith;
+  bytes = bytes_of_number records i;
+  joined = (next_record records.image.now records.changes.now records.starts records.count (omega (arith, records.merged.full, records.merged.few)) l).is;
+  written = w;
+}
 
 -- the end of the last record, as it was read
 pub read-end : {image changes starts bytes : List ℕ} {i from until : ℕ} (last : ℕ) → Stretched image changes starts i from (last + length (field_bytes image last)) until
@@ -39,16 +43,6 @@ pub read-end : {image changes starts bytes : List ℕ} {i from until : ℕ} (las
 read-end last s e = rw e s
 
 module _ (image changes index : List ℕ) (n : ℕ) (h : n ≤ length index) where
-  pub put_record : {i : ℕ} → i < n → {before after : List ℕ} {size : ℕ} → Written (bytes_at image changes (get_or index i 0)) before after size
-      → PutNext image changes (take n index) i before after (record { size = size; until = i + 1 })
-  put_record {i} l w = record {
-    some = omega arith;
-    few = omega (arith, length-take n index);
-    bytes = bytes_at image changes (get_or index i 0);
-    joined = (next_record image changes index n h l).is;
-    written = w;
-  }
-
   module _ (few : length image ≤ 262144) where
     here : (at : ℕ) → at < length image → slice at (at + length (field_bytes image at)) image ≡ bytes_at image changes at
     here at l = start-image image changes _ at (omega arith) (sym (ended image at (omega arith)).same)

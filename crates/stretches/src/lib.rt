@@ -1,15 +1,12 @@
 // The records of an index written one after another: those that stand so in the image in one stretch.
 #![tactic(auto)]
 
-ghost use Rattle.std.specs.Prelude.{◌≡◌, ◌≤◌, ◌<◌, length, get_or, take, drop};
-ghost use Rattle.registry.specs.Limits.{most_image};
+ghost use Rattle.std.specs.Prelude.{◌≡◌, ◌≤◌, ◌<◌, length, get_or};
 ghost use Rattle.output.specs.Writing.{Written};
-ghost use Rattle.changes.specs.Limits.{most_entries};
-ghost use Rattle.merged.specs.Held.{row_at};
-ghost use Rattle.stretches.specs.Stretches.{StretchFrom, PutNext};
+ghost use Rattle.merged.specs.Listed.{row_in};
+ghost use Rattle.stretches.specs.Stretches.{StretchFrom, row_from, PutNext};
 
-use changes::PerEntry;
-use merged::{field_bytes, record_at};
+use merged::{Records, field_bytes};
 use output::put_bytes;
 
 // Records that stand one after another in the image: where the last of them ends, and the number of the first behind them.
@@ -19,36 +16,26 @@ struct Stretch {
     until: usize,
 }
 
-fn wide(start: u32) -> usize
-    ensures { result ≡ start }
+// Those from number i on. Each end is reckoned from a start of the index and not from the end before it, so that no read waits for another.
+fn stretch_from(records: &Records, i: usize) -> Stretch
+    requires { (i < records.now.count) × (get_or records.now.starts i 0 < length records.now.image.now) }
+    ensures { StretchFrom records.now i result }
 {
-    start as usize
-}
-
-// Those from the i-th of the index on. Each end is reckoned from a start of the index and not from the end before it, so that no read waits for
-// another.
-fn stretch_from(image: &[u8], index: &PerEntry, n: usize, i: usize) -> Stretch
-    requires { (length index.now ≡ most_entries) × (n ≤ most_entries) × (i < n)
-        × (get_or index.now i 0 < length image.now) × (length image.now ≤ most_image) }
-    ensures { StretchFrom image.now index.now n i result }
-{
-    let mut last = index[i] as usize;
-    let mut until = i + 1;
-    while until < n {
-        let next = wide(index[until]);
-        let end = last + field_bytes(image, last).len();
+    let mut last = records.starts[i] as usize;
+    for until in i + 1..records.count {
+        let next = records.starts[until] as usize;
+        let end = last + field_bytes(records.image, last).len();
         if next != end {
             return Stretch { end, until };
         }
-        if image.len() <= next {
+        if records.image.len() <= next {
             return Stretch { end, until };
         }
         last = next;
-        until += 1;
     }
     Stretch {
-        end: last + field_bytes(image, last).len(),
-        until,
+        end: last + field_bytes(records.image, last).len(),
+        until: records.count,
     }
 }
 
@@ -59,50 +46,31 @@ struct Put {
     until: usize,
 }
 
-// The i-th record of the index, with those that follow it in the image too.
-fn put_next<'a>(
-    image: &'a [u8],
-    changes: &'a [u8],
-    index: &PerEntry,
-    n: usize,
-    i: usize,
-    out: &mut [u8],
-) -> Put
-    requires { (length index.now ≡ most_entries) × (n ≤ most_entries) × (i < n) × (length image.now ≤ most_image)
-        × (length (row_at image.now changes.now (drop i (take n index.now))) ≤ length out.old) }
-    ensures { PutNext image.now changes.now (take n index.now) i out.old out.new result }
+// The record with number i, with those that follow it in the image too.
+fn put_next(records: &Records, i: usize, out: &mut [u8]) -> Put
+    requires { (i < records.now.count) × (length (row_from records.now i) ≤ length out.old) }
+    ensures { PutNext records.now i out.old out.new result }
 {
-    let start = index[i];
-    if start < image.len() as u32 {
-        let stretch = stretch_from(image, index, n, i);
-        let from = start as usize;
-        let end = stretch.end;
-        let size = put_bytes(&image[from..end], out);
-        return Put {
-            size,
-            until: stretch.until,
-        };
+    let start = records.starts[i];
+    if start < records.image.len() as u32 {
+        let Stretch { end, until } = stretch_from(records, i);
+        let size = put_bytes(&records.image[start as usize..end], out);
+        return Put { size, until };
     }
-    let size = put_bytes(record_at(image, changes, start), out);
+    let size = put_bytes(records.record_at(start), out);
     Put { size, until: i + 1 }
 }
 
 // The records one after another.
-pub fn put_records<'a>(
-    image: &'a [u8],
-    changes: &'a [u8],
-    index: &PerEntry,
-    n: usize,
-    out: &mut [u8],
-) -> usize
-    requires { (length index.now ≡ most_entries) × (n ≤ most_entries) × (length image.now ≤ most_image)
-        × (length (row_at image.now changes.now (take n index.now)) ≤ length out.old) }
-    ensures { Written (row_at image.now changes.now (take n index.now)) out.old out.new result }
+pub fn put_records(records: &Records, out: &mut [u8]) -> usize
+    requires { length (row_in records.now) ≤ length out.old }
+    ensures { Written (row_in records.now) out.old out.new result }
 {
     let mut at: usize = 0;
     let mut i: usize = 0;
-    while i < n {
-        let put = put_next(image, changes, index, n, i, &mut out[at..]);
+    // From stretch to stretch, not from record to record.
+    while i < records.count {
+        let put = put_next(records, i, &mut out[at..]);
         at += put.size;
         i = put.until;
     }

@@ -12,15 +12,14 @@
 #![tactic(auto)]
 
 ghost use Rattle.std.specs.Prelude.{◌≤◌, length};
-ghost use Rattle.registry.specs.Limits.{most_path, most_host};
+ghost use Rattle.registry.specs.Limits.{most_path};
 
 use files::{part, read_full};
 use ip::Family;
-use numeral::Number;
-use pattern::Form;
+use pattern::{Form, PatternError};
 use registry::{MOST_PATH, Text};
-use segment::TargetRead;
-use text_segment::NameRead;
+use segment::Target;
+use text_segment::{Pattern, ShortText};
 
 fn say(out: &impl Print, s: &[u8]) {
     let _ = out.write_all(s);
@@ -39,11 +38,11 @@ fn zeros_before(family: u8) -> usize
     if family == 0x11 { 0 } else { 12 }
 }
 
-fn say_target(out: &impl Print, t: TargetRead) {
-    if !t.ok {
+fn say_target(out: &impl Print, t: Option<Target>) {
+    let Some(t) = t else {
         say(out, b"no");
         return;
-    }
+    };
     let range = t.range;
     let first = range.first.bytes;
     let last = range.last.bytes;
@@ -71,17 +70,14 @@ fn say_prefix(out: &impl Print, s: &[u8])
     );
 }
 
-fn say_name(out: &impl Print, n: NameRead)
-    requires { n.len ≤ most_host }
-{
-    if !n.ok {
-        say(out, b"no");
-        return;
+fn say_name(out: &impl Print, name: Option<ShortText>) {
+    match name {
+        Some(text) => {
+            say(out, b"ok ");
+            say(out, text.as_slice());
+        }
+        None => say(out, b"no"),
     }
-    let bytes = n.bytes;
-    let len = n.len;
-    say(out, b"ok ");
-    say(out, part(&bytes, 0, len));
 }
 
 fn say_form(out: &impl Print, form: Form) {
@@ -91,66 +87,63 @@ fn say_form(out: &impl Print, form: Form) {
             say(out, b"asterisk ");
             let _ = out.print(at);
         }
-        Form::Unsupported => say(out, b"unsupported"),
-        Form::Malformed => say(out, b"malformed"),
     }
 }
 
-// A pattern, which a space and a name may follow.
+fn matches(text: Text, pattern: &Pattern, name: &[u8]) -> bool {
+    let fold = pattern::folds_case(text);
+    pattern::form_matches(fold, pattern.form, pattern.text.as_slice(), name)
+}
+
+// A pattern, which a space and a name may follow. A text that is no pattern matches no name.
 fn say_pattern(out: &impl Print, text: Text, s: &[u8])
     requires { length s.now ≤ most_path }
 {
     let j = pieces::first_piece(s, b' ');
     let read = text_segment::read_pattern(text, part(s, 0, j));
-    let form = read.form;
-    say_form(out, form);
+    match &read {
+        Ok(pattern) => say_form(out, pattern.form),
+        Err(PatternError::Unsupported) => say(out, b"unsupported"),
+        Err(PatternError::Malformed) => say(out, b"malformed"),
+    }
     if j == s.len() {
         return;
     }
-    let bytes = read.bytes;
-    let len = read.len;
-    if pattern::form_matches(
-        pattern::folds_case(text),
-        form,
-        part(&bytes, 0, len),
-        part(s, j + 1, s.len()),
-    ) {
-        say(out, b" matches");
-    } else {
-        say(out, b" differs");
+    let name = part(s, j + 1, s.len());
+    match &read {
+        Ok(pattern) if matches(text, pattern, name) => say(out, b" matches"),
+        _ => say(out, b" differs"),
     }
 }
 
 // The text of an address of four bytes or sixteen.
 fn say_text(out: &impl Print, address: &[u8]) {
     let mut text = [0u8; 39];
-    let w = address_text::address_text(address, &mut text);
-    let n = w.count as usize;
-    if n <= 39 {
-        say(out, part(&text, 0, n));
+    if let Ok(n) = address_text::address_text(address, &mut text) {
+        say(out, part(&text, 0, n as usize));
     }
 }
 
 // The address that is read, written again.
 fn say_written(out: &impl Print, s: &[u8]) {
-    let read = ip::read_address(s);
+    let Some(read) = ip::read_address(s) else {
+        say(out, b"no");
+        return;
+    };
     let bytes = read.address.bytes;
-    let family = read.family;
-    match family {
+    match read.family {
         Family::V4 => say_text(out, part(&bytes, 12, 16)),
         Family::V6 => say_text(out, &bytes),
-        Family::Malformed => say(out, b"no"),
     }
 }
 
-fn say_number(out: &impl Print, n: Number) {
-    match n {
-        Number::Value(v) => {
-            say(out, b"ok ");
-            let _ = out.print(v);
-        }
-        Number::Malformed => say(out, b"no"),
-    }
+fn say_number(out: &impl Print, n: Option<u64>) {
+    let Some(v) = n else {
+        say(out, b"no");
+        return;
+    };
+    say(out, b"ok ");
+    let _ = out.print(v);
 }
 
 fn say_bytes(out: &impl Print, s: &[u8]) {
@@ -212,6 +205,7 @@ fn run_line(out: &impl Print, line: &[u8]) {
     say(out, b"\n");
 }
 
+// A line feed at the end starts no line, as cutting at each one would have it.
 fn run_lines(out: &impl Print, s: &[u8]) {
     let mut rest = s;
     while 0 < rest.len() {

@@ -1,4 +1,4 @@
--- Laws of runs: one step, two runs that overlap, and a run over a whole list.
+-- Laws of runs: one step, two runs that overlap, and runs over the parts of a list.
 use mathlib.Core.Path.{◌≡◌, refl, sym, ap, ◌∙◌}
 use mathlib.Core.Bool.{Bool, true, false, ◌&&◌}
 use mathlib.Core.List.{List, [], ◌∷◌}
@@ -7,7 +7,8 @@ use borrow.Author.Tests.{ltb-true, ltb-false}
 use native.Mathlib.Omega.{arith}
 use native.Mathlib.Numerals.{add-one}
 use lib.Dec.{ltb}
-use lib.ListN.{length, get_or}
+use lib.ListN.{length, get_or, take, drop, length-drop}
+use lib.Seq.{length-take-le, get_or-drop, get_or-take}
 use Rattle.octets.specs.Lists.{every}
 use Rattle.octets.proofs.Connectives.{and_left, and_right}
 use Rattle.texts.specs.Run.{run}
@@ -83,7 +84,43 @@ module _ (p : ℕ → Bool) where
   true-every [] f = refl
   true-every (b ∷ bs) f = and_both _ _ (f 0 (suc-le-suc zero-le)) (true-every bs (λ i h. f (suc i) (suc-le-suc h)))
 
-  pub run-every : (q : ℕ → Bool) (s : List ℕ) → ((i : ℕ) → q i ≡ p (get_or s i 0)) → run q 0 (length s) ≡ every p s
-  run-every q s f = equal_if _ _
-      (λ e. true-every s (λ i h. sym (f i) ∙ first-true q (length s) e i h))
-      (λ e. true-first q (length s) (λ i h. f i ∙ every_true s e i h))
+  run-every : (s : List ℕ) → run (λ i. p (get_or s i 0)) 0 (length s) ≡ every p s
+  run-every s = equal_if _ _
+      (λ e. true-every s (λ i h. first-true _ (length s) e i h))
+      (λ e. true-first _ (length s) (λ i h. every_true s e i h))
+
+  -- a test of each element of a part of s
+  pub every-part : (s : List ℕ) (at n : ℕ) → at + n ≤ length s → every p (take n (drop at s)) ≡ run (λ i. p (get_or s i 0)) at n
+  every-part s at n h = equal_if _ _
+      (λ e. true-run _ at n (λ i k. rw (← inside i k) (every_true part e i (omega (arith, len)))))
+      (λ e. true-every part (λ i k. let j : i < n = omega (arith, len) in rw (inside i j) (run-true _ at n e i j)))
+    where
+      part : List ℕ
+      part = take n (drop at s)
+
+      len : length part ≡ n
+      len = length-take-le n (drop at s) (simp length-drop (omega arith))
+
+      inside : (i : ℕ) → i < n → get_or part i 0 ≡ get_or s (at + i) 0
+      inside i k = get_or-take n (drop at s) i 0 k ∙ get_or-drop at s i 0
+
+  -- one element more
+  pub every-step : (s : List ℕ) (i : ℕ) → i < length s → every p (take (i + 1) s) ≡ (every p (take i s) && p (get_or s i 0))
+  every-step s i h =
+      let d : 0 + i ≡ i = omega arith in
+      rw (every-part s 0 (i + 1) (omega arith), every-part s 0 i (omega arith)) (rw d at (run_step (λ i. p (get_or s i 0)) 0 i))
+
+  -- of all of s, by the first k and the last k, or by the first k, the next k and the last k, which overlap or touch
+
+  pub every-ends : (s : List ℕ) (k : ℕ) → k ≤ length s → length s ≤ k + k
+      → (every p (take k s) && every p (take (length s - (length s - k)) (drop (length s - k) s))) ≡ every p s
+  every-ends s k h g =
+      let e : length s - (length s - k) ≡ k = omega arith in
+      rw (e, every-part s 0 k (omega arith), every-part s (length s - k) k (omega arith)) (run_ends _ k k (length s) h h g ∙ run-every s)
+
+  pub every-thirds : (s : List ℕ) (k : ℕ) → k + k ≤ length s → length s ≤ k + k + k
+      → (every p (take k s) && every p (take (k + k - k) (drop k s)) && every p (take (length s - (length s - k)) (drop (length s - k) s))) ≡ every p s
+  every-thirds s k h g =
+      let e : length s - (length s - k) ≡ k = omega arith in
+      let d : k + k - k ≡ k = omega arith in
+      rw (e, d, every-part s 0 k (omega arith), every-part s k k h, every-part s (length s - k) k (omega arith)) (run_thirds _ k (length s) h g ∙ run-every s)

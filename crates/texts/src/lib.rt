@@ -4,34 +4,28 @@
 #![tactic(auto)]
 
 ghost use Rattle.std.specs.Prelude.{◌≡◌, ◌+◌, ◌≤◌, length};
-ghost use Rattle.texts.specs.Texts.{good_text};
-ghost use Rattle.texts.specs.Run.{run, text_at};
+ghost use Rattle.octets.specs.Lists.{every};
+ghost use Rattle.texts.specs.Texts.{text_byte, good_text};
 
 use registry::MOST_TEXT;
 
-// Whether the n bytes from at on are from low to 7E, with no asterisk.
-fn text_run(s: &[u8], low: u8, at: usize, n: usize) -> bool
-    requires { at + n ≤ length s.now }
-    ensures { result ≡ run (text_at low s.now) at n }
+// Whether all bytes are from low to 7E, with no asterisk.
+fn text_run(s: &[u8], low: u8) -> bool
+    ensures { result ≡ every (text_byte low) s.now }
 {
     let mut good = true;
-    let mut i: usize = 0;
-    while i < n {
-        let b = s[at + i];
-        good = good & (low <= b) & (b <= 0x7E) & (b != b'*');
-        i += 1;
+    for b in s {
+        good = good & (low <= *b) & (*b <= 0x7E) & (*b != b'*');
     }
     good
 }
 
-// Whether all bytes are, by the first n and the last n, which overlap or touch.
+// The same by the first n and the last n, which overlap or touch.
 fn text_ends(s: &[u8], low: u8, n: usize) -> bool
     requires { (1 ≤ n) × (n ≤ 32) × (n ≤ length s.now) × (length s.now ≤ n + n) }
     ensures { result ≡ good_text low s.now }
 {
-    let first = text_run(s, low, 0, n);
-    let last = text_run(s, low, s.len() - n, n);
-    first & last
+    text_run(&s[..n], low) & text_run(&s[s.len() - n..], low)
 }
 
 // The same by the first n, the next n and the last n.
@@ -39,78 +33,45 @@ fn text_thirds(s: &[u8], low: u8, n: usize) -> bool
     requires { (1 ≤ n) × (n ≤ 16) × (n + n ≤ length s.now) × (length s.now ≤ n + n + n) }
     ensures { result ≡ good_text low s.now }
 {
-    let first = text_run(s, low, 0, n);
-    let second = text_run(s, low, n, n);
-    let last = text_run(s, low, s.len() - n, n);
-    first & second & last
+    text_run(&s[..n], low) & text_run(&s[n..n + n], low) & text_run(&s[s.len() - n..], low)
 }
 
 // Whether s has 1 to 64 bytes from low to 7E, with no asterisk.
 pub fn text_ok(s: &[u8], low: u8) -> bool
     ensures { result ≡ good_text low s.now }
 {
-    let n = s.len();
-    if n < 1 {
-        return false;
+    match s.len() {
+        1..=MOST_TEXT => text_run(s, low),
+        _ => false,
     }
-    if MOST_TEXT < n {
-        return false;
-    }
-    text_run(s, low, 0, n)
 }
 
-// The same for the check of an image, as fast as can be: whether s is a handle. It is not one function with the next, given the lowest
-// byte, so that each is called from one place and is made a part of its caller.
+// The same for the check of an image, as fast as can be. It has a parameter for the lowest byte that each use makes a function of its own,
+// called from one place, so that each is made a part of its caller.
+fn sized_text_ok<const LOW: u8>(s: &[u8]) -> bool
+    ensures { result ≡ good_text LOW s.now }
+{
+    match s.len() {
+        8..=16 => text_ends(s, LOW, 8),
+        4..=7 => text_ends(s, LOW, 4),
+        1..=3 => text_run(s, LOW),
+        17..=32 => text_ends(s, LOW, 16),
+        33..=48 => text_thirds(s, LOW, 16),
+        49..=MOST_TEXT => text_ends(s, LOW, 32),
+        _ => false,
+    }
+}
+
+// Whether s is a handle.
 pub fn handle_ok(s: &[u8]) -> bool
     ensures { result ≡ good_text 0x21 s.now }
 {
-    let n = s.len();
-    if (8 <= n) & (n <= 16) {
-        return text_ends(s, 0x21, 8);
-    }
-    if n < 8 {
-        if 4 <= n {
-            return text_ends(s, 0x21, 4);
-        }
-        if 1 <= n {
-            return text_run(s, 0x21, 0, n);
-        }
-        return false;
-    }
-    if n <= 32 {
-        return text_ends(s, 0x21, 16);
-    }
-    if n <= MOST_TEXT {
-        return text_ends(s, 0x21, 32);
-    }
-    false
+    sized_text_ok::<0x21>(s)
 }
 
 // Whether s is a name.
 pub fn name_ok(s: &[u8]) -> bool
     ensures { result ≡ good_text 0x20 s.now }
 {
-    let n = s.len();
-    if (8 <= n) & (n <= 16) {
-        return text_ends(s, 0x20, 8);
-    }
-    if n < 8 {
-        if 4 <= n {
-            return text_ends(s, 0x20, 4);
-        }
-        if 1 <= n {
-            return text_run(s, 0x20, 0, n);
-        }
-        return false;
-    }
-    if n <= 32 {
-        return text_ends(s, 0x20, 16);
-    }
-    if n <= 48 {
-        return text_thirds(s, 0x20, 16);
-    }
-    if n <= MOST_TEXT {
-        return text_ends(s, 0x20, 32);
-    }
-    false
+    sized_text_ok::<0x20>(s)
 }

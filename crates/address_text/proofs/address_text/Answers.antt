@@ -1,10 +1,10 @@
 -- By the length of the address.
+use native.Mathlib.Omega.{arith}
 use Rattle.address_text.proofs.Answers.{no_address}
-use borrow.Author.Rules.{rules}
 use Rattle.address_text.proofs.address_text.Goals as goal
 
-pub returns : goal.returns
-returns c =
+pub returns-in_default : goal.returns-in_default
+returns-in_default c =
     let a = c.args in
-    let t = no_address a.address.now a.text.now (search rules) (search rules) in
+    let t = no_address a.address.now a.text.now (λ e. omega arith) (λ e. omega arith) in
     record { numbers = t.0; text = t.1 }

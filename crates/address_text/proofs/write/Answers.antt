@@ -30,16 +30,16 @@ returns-then-text-size c =
     let t = told c.args.address.now c.args.text.now c.requires (nothing_put (text_of c.args.address.now) c.args.text.now c.size_of-size.ensures (omega (arith, c.size_of-size.ensures))) in
     record { numbers = t.0; text = t.1 }
 
-pub put_text-n-requires : goal.put_text-n-requires
-put_text-n-requires c =
-    (c.requires, room (goal.at.put_text-n-requires c).Joined-text-most)
+pub put_text-requires : goal.put_text-requires
+put_text-requires c =
+    (c.requires, room (goal.at.put_text-requires c).Joined-text-most)
 
 pub overflow_cast-result-2 : goal.overflow_cast-result-2
 overflow_cast-result-2 c =
-    omega (arith, c.put_text-n.ensures.size, text-most c.args.address.now (bytes (goal.at.overflow_cast-result-2 c).Joined-address-eq4) c.requires)
+    omega (arith, c.put_text.ensures.size, text-most c.args.address.now (bytes (goal.at.overflow_cast-result-2 c).Joined-address-eq4) c.requires)
 
 pub returns : goal.returns
 returns c =
-    let w = c.put_text-n.ensures in
+    let w = c.put_text.ensures in
     let t = told c.args.address.now c.args.text.now c.requires (all-put (text_of c.args.address.now) c.args.text.now w.size (room (goal.at.returns c).Joined-text-most) (written_over w)) in
     record { numbers = t.0; text = t.1 }

@@ -8,5 +8,5 @@ use Rattle.batch_line.proofs.answer_path.Goals as goal
 pub returns : goal.returns
 returns c =
     let a = c.args in
-    line-answered a.path.now (image_of a.image.now) _ a.list.now _ (omega arith) c.answer-a.ensures
+    line-answered a.path.now (image_of a.image.bytes.now) _ a.list.now _ (omega arith) c.answer-a.ensures
     c.write_head.ensures c.reports.ensures

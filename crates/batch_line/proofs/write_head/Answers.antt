@@ -15,4 +15,4 @@ bounds-list-2 c = simp length-set (omega arith)
 
 pub returns : goal.returns
 unfolding line reply_of
-returns c = let a = c.args in rw c.kind_number.ensures (four-set _ _ _ _ a.list.now (omega arith))
+returns c = let a = c.args in rw (c.status.ensures, c.number.ensures, c.kind_number.ensures) (four-set _ _ _ _ a.list.now (omega arith))

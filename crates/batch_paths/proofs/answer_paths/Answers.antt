@@ -1,73 +1,42 @@
-use native.Mathlib.Omega.{arith}
+-- The item of each turn is the next path of the text.
+use Rattle.std.proofs.Common.{rules, tests, arith, ◌≡◌, ℕ, ◌+◌, ◌≤◌, List, ◌∷◌, length, drop, drop_of_length-le, refl}
+use Rattle.std.proofs.lemmas.List.{length_push}
+use Rattle.std.proofs.lemmas.Iterator.Consumers.{YieldsList-turn, YieldsList-end}
+use Rattle.std.proofs.lemmas.Iterator.Splits.{YieldsList-from_slice_split}
+use lib.Dec.{eqb}
 use Rattle.image.specs.Image.{image_of}
-use Rattle.output.proofs.Writing.{rest-length}
-use Rattle.batch_paths.proofs.Answering.{line_in_rest, nothing_yet, kept-length, all-answered, none-fits, path-left, next_fits, one_more}
+use Rattle.batches.specs.Batch.{paths_of}
+use Rattle.batch_paths.proofs.Splitting.{paths_split, left-begins}
+use Rattle.batch_paths.proofs.Answering.{line_in_rest, nothing_yet, all-answered, none-fits, path-left, one_more}
 use Rattle.batch_paths.proofs.answer_paths.Goals as goal
+use Rattle.batch_paths.proofs.answer_paths.Goals.{In-Some}
 
-pub loop-start-init : goal.loop-start-init
-loop-start-init c =
-    let a = c.args in
-    nothing_yet (image_of a.image.now) a.text.now a.list.now
-
-pub overflow_sub-list : goal.overflow_sub-list
-overflow_sub-list c = let g = c.loop-start.invariant in omega (arith, g.room, kept-length g)
-
-pub shape_of-list-then-list-at-lt4 : goal.shape_of-list-then-list-at-lt4
-shape_of-list-then-list-at-lt4 c = kept-length c.loop-start.invariant
+pub loop-path-init : goal.loop-path-init
+loop-path-init c = nothing_yet (image_of c.args.image.bytes.now) (paths_of c.args.text.now) c.args.list.now
 
 pub returns-then-list-at-lt4 : goal.returns-then-list-at-lt4
-returns-then-list-at-lt4 c = none-fits c.loop-start.invariant c.if-list-at-lt4.true
+returns-then-list-at-lt4 c = none-fits c.loop-path.invariant c.if-list-at-lt4.true
 
-pub piece_end-end-requires : goal.piece_end-end-requires
-piece_end-end-requires c = c.loop-start-test.true
-
-pub slice_bounds-answer_path-count : goal.slice_bounds-answer_path-count
-slice_bounds-answer_path-count c = c.piece_end-end.ensures.starts
-
-pub slice_bounds-answer_path-start : goal.slice_bounds-answer_path-start
-slice_bounds-answer_path-start c = c.piece_end-end.ensures.starts
-
-pub slice_bounds-answer_path-end : goal.slice_bounds-answer_path-end
-slice_bounds-answer_path-end c = c.piece_end-end.ensures.fits
-
--- the rest of the list starts within it
-pub offset_bounds-list-at : goal.offset_bounds-list-at
-offset_bounds-list-at c = let g = c.loop-start.invariant in omega (arith, g.room, kept-length g)
-
-pub slice_bounds-answer_path-count-in-loop-start : goal.slice_bounds-answer_path-count-in-loop-start
-slice_bounds-answer_path-count-in-loop-start c = let g = c.loop-start.invariant in omega (arith, g.room, kept-length g)
-
-pub slice_bounds-answer_path-start-in-loop-start : goal.slice_bounds-answer_path-start-in-loop-start
-slice_bounds-answer_path-start-in-loop-start c = let g = c.loop-start.invariant in omega (arith, g.room, kept-length g)
-
-pub answer_path-at-requires : goal.answer_path-at-requires
-answer_path-at-requires c =
-    (c.requires.0, omega (arith, c.if-list-at-lt4.false, rest-length c.loop-start.list c.loop-start.at))
-
-pub overflow_add-at : goal.overflow_add-at
-overflow_add-at c =
-    let l = line_in_rest _ (image_of c.args.image.now) c.loop-start.list _ c.loop-start.at _ c.answer_path-at.ensures in
-    omega (arith, l.size, next_fits c.loop-start.invariant c.piece_end-end.ensures c.if-list-at-lt4.false, c.loop-start.invariant.room, kept-length c.loop-start.invariant, c.well_formed)
+-- what is left begins with the path of this turn
+begins : (c : In-Some) → let n = length c.loop-path.yielded in let paths = paths_of c.args.text.now in
+    drop n paths ≡ c.in-Some.path.now ∷ drop (n + 1) paths
+begins c =
+    let given = YieldsList-from_slice_split _ (λ (b : ℕ). eqb b 10) c.args.text.now (cc) (cc) (cc) (λ x r q k. search (rules, tests)) in
+    let turn = YieldsList-turn given c.loop-path.yielded _ c.loop-path.yielded_by _ _ c.in-Some.path c.in-Some.is c.next.ensures.steps in
+    left-begins (paths_of c.args.text.now) c.in-Some.path.now (length c.loop-path.yielded) (rw paths_split turn)
 
 pub overflow_add-answered : goal.overflow_add-answered
 overflow_add-answered c =
-    omega (arith, path-left c.loop-start.invariant c.piece_end-end.ensures c.if-list-at-lt4.false, c.requires.1)
+    omega (arith, path-left c.loop-path.invariant (begins (goal.at.overflow_add-answered c).In-Some) c.if-list-at-lt4.false, c.requires)
 
-pub overflow_add-start : goal.overflow_add-start
-overflow_add-start c = omega (arith, c.piece_end-end.ensures.fits)
-
-pub loop-start-smaller : goal.loop-start-smaller
-loop-start-smaller c =
-    let piece = c.piece_end-end.ensures in
-    omega (arith, piece.starts, piece.fits)
-
-pub loop-start-preserved : goal.loop-start-preserved
-loop-start-preserved c =
-    let l = line_in_rest _ (image_of c.args.image.now) c.loop-start.list _ c.loop-start.at _ c.answer_path-at.ensures in
-    one_more c.loop-start.invariant c.piece_end-end.ensures c.if-list-at-lt4.false l
-
-pub shape_of-list : goal.shape_of-list
-shape_of-list c = kept-length c.loop-start.invariant
+pub loop-path-preserved : goal.loop-path-preserved
+loop-path-preserved c =
+    let l = line_in_rest _ (image_of c.args.image.bytes.now) c.loop-path.list _ c.loop-path.at _ c.answer_path-at.ensures in
+    rw (length_push c.loop-path.yielded c.in-Some.path) (one_more c.loop-path.invariant (begins (goal.at.loop-path-preserved c).In-Some) c.if-list-at-lt4.false l)
 
 pub returns : goal.returns
-returns c = all-answered c.loop-start.invariant c.loop-start-test.false
+returns c =
+    let given = YieldsList-from_slice_split _ (λ (b : ℕ). eqb b 10) c.args.text.now (cc) (cc) (cc) (λ x r q k. search (rules, tests)) in
+    let end = YieldsList-end given c.loop-path.yielded _ c.loop-path.yielded_by _ _ c.in-None.is c.next.ensures.steps in
+    let most : length (paths_of c.args.text.now) ≤ length c.loop-path.yielded = rw (paths_split c.args.text.now, ← end.1) (omega arith) in
+    all-answered c.loop-path.invariant (drop_of_length-le (paths_of c.args.text.now) most)

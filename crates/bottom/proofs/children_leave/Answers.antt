@@ -1,22 +1,13 @@
-use Prim.Native.Nat.{◌<◌, ◌≤◌}
-use mathlib.Core.Path.{sym, ◌∙◌}
+use Prim.Native.Nat.{suc, ◌<◌, ◌≤◌, max}
+use mathlib.Core.Path.{◌∙◌}
 use native.Mathlib.Omega.{arith}
 use lib.ListN.{get_or}
-use borrow.Author.Tests.{leb-false}
 use Rattle.containment.specs.Tests.{Comparable}
-use Rattle.bottom.proofs.Carry.{room}
 use Rattle.bottom.proofs.Tests.{comparable-at}
 use Rattle.bottom.proofs.Children.{walk_start, walk_end, child-known, walk-gap, walk-over, walk-next}
 use borrow.Author.Rules.{rules}
 use Rattle.bottom.proofs.children_leave.Goals as goal
-use Rattle.bottom.proofs.children_leave.Goals.{In-loop-j, Start}
-
-module _ (c : Start) where
-  limit-high : c.args.limit.high < 18446744073709551616
-  limit-high = search rules
-
-  limit-low : c.args.limit.low < 18446744073709551616
-  limit-low = search rules
+use Rattle.bottom.proofs.children_leave.Goals.{In-loop-j}
 
 -- the child of this turn
 child : (c : In-loop-j) → c.loop-j.j < c.args.n
@@ -65,29 +56,23 @@ stands : (c : In-loop-j) → let a = c.args in
     Comparable a.image.now (get_or a.firsts.now c.loop-j.j 0) c.width_of-width.result
 stands c = comparable-at c.requires.0.gathered _ (child c) c.width_of-width.ensures.0
 
-pub words_at-requires : goal.words_at-requires
-words_at-requires c = let k = stands (goal.at.words_at-requires c).In-loop-j in (k.wide, omega (arith, k.fits))
+pub number_at-requires : goal.number_at-requires
+number_at-requires c = let k = stands (goal.at.number_at-requires c).In-loop-j in (k.wide, omega (arith, k.fits))
 
-pub returns-then-not-words_at_most : goal.returns-then-not-words_at_most
-returns-then-not-words_at_most c =
-    walk-gap c.requires.0 c.loop-j.invariant c.loop-j-test.true c.width_of-width.ensures.0
-    c.words_at.ensures c.words_at_most.ensures (c.if-not-words_at_most.true)
+pub returns-then-free-number_at : goal.returns-then-free-number_at
+returns-then-free-number_at c =
+    walk-gap c.requires.0 c.loop-j.invariant c.loop-j-test.true c.width_of-width.ensures.0 c.number_at.ensures c.if-free-number_at.true
 
 pub overflow_add-child : goal.overflow_add-child
 overflow_add-child c = let k = (stands (goal.at.overflow_add-child c).In-loop-j).fits in search rules
 
-pub words_at-last-requires : goal.words_at-last-requires
-words_at-last-requires c = let k = stands (goal.at.words_at-last-requires c).In-loop-j in (k.wide, omega (arith, k.fits))
+pub number_at-last-requires : goal.number_at-last-requires
+number_at-last-requires c = let k = stands (goal.at.number_at-last-requires c).In-loop-j in (k.wide, omega (arith, k.fits))
 
-pub returns-then-words_at_most : goal.returns-then-words_at_most
-returns-then-words_at_most c =
+pub returns-then-limit-last : goal.returns-then-limit-last
+returns-then-limit-last c =
     walk-over c.requires.0 c.loop-j.invariant c.loop-j-test.true c.width_of-width.ensures.0
-    c.words_at.ensures c.words_at_most.ensures (c.if-not-words_at_most.false)
-    c.words_at-last.ensures c.words_at_most-in-loop-j.ensures c.if-words_at_most.true
-
-pub next-requires : goal.next-requires
-next-requires c =
-    room 18446744073709551615 _ _ _ _ (limit-high (goal.at.next-requires c).Start) (limit-low (goal.at.next-requires c).Start) (leb-false _ _ (sym c.words_at_most-in-loop-j.ensures ∙ c.if-words_at_most.false))
+    c.number_at.ensures c.if-free-number_at.false c.number_at-last.ensures c.if-limit-last.true
 
 pub offset_bounds-links-j : goal.offset_bounds-links-j
 offset_bounds-links-j c =
@@ -110,9 +95,7 @@ loop-j-smaller c = let k = leads (goal.at.loop-j-smaller c).In-loop-j in omega a
 pub loop-j-preserved : goal.loop-j-preserved
 loop-j-preserved c =
     walk-next c.requires.0 c.loop-j.invariant c.loop-j-test.true c.width_of-width.ensures.0
-    c.words_at.ensures c.words_at_most.ensures (c.if-not-words_at_most.false)
-    c.words_at-last.ensures c.words_at_most-in-loop-j.ensures c.if-words_at_most.false
-    (c.greater-free.ensures ∙ rw c.next.ensures)
+    c.number_at.ensures c.if-free-number_at.false c.number_at-last.ensures c.if-limit-last.false (omega (arith, c.max-free.ensures))
 
 pub returns : goal.returns
 returns c = walk_end c.requires.0 c.loop-j.invariant c.loop-j-test.false

@@ -40,9 +40,6 @@ bounds-hits-m c = let k = (c.requires.0.few) in search rules
 pub overflow_add-m : goal.overflow_add-m
 overflow_add-m c = let k = (c.requires.0.few) in search rules
 
-pub overflow_add-i : goal.overflow_add-i
-overflow_add-i c = let k = (c.requires.0.few) in search rules
-
 pub loop-i-preserved : goal.loop-i-preserved
 loop-i-preserved c =
     let p = c.requires in

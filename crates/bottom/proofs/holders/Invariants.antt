@@ -15,6 +15,3 @@ invariant-loop-i l = (l.i ≤ l.n)
     × (length l.hits ≡ 4096)
     × (take l.m l.hits ++ select (is_holder (blocks_in l.image l.family) (numbers l.range)) (drop l.i (blocks_in l.image l.family))
     ≡ holders_of (blocks_in l.image l.family) (numbers l.range))
-
-abbrev pub decreases-loop-i : goal.decreases-loop-i
-decreases-loop-i l = l.n - l.i

@@ -1,8 +1,6 @@
 -- `bottom::leaves_gap` meets its contract: the pass for a gap, over what block i and the range have.
 use mathlib.Core.Path.{◌≡◌, sym, ◌∙◌}
 use native.Mathlib.Omega.{arith}
-use borrow.Author.Tests.{leb-true}
-use Rattle.octets.specs.Words.{number_of}
 use Rattle.address.specs.Address.{numbers}
 use Rattle.forest.specs.Scans.{gap_in}
 use Rattle.scans.specs.Standing.{blocks_in}
@@ -11,16 +9,16 @@ use Rattle.bottom.proofs.Tests.{comparable-at}
 use Rattle.bottom.proofs.Children.{whole, walk_none}
 use borrow.Author.Rules.{rules}
 use Rattle.bottom.proofs.leaves_gap.Goals as goal
-use Rattle.bottom.proofs.leaves_gap.Goals.{After-greater-free}
+use Rattle.bottom.proofs.leaves_gap.Goals.{After-max-free}
 
 -- what block i and the range have
-both : (c : After-greater-free) → let a = c.args in
-    leaves_from a.image.now a.family a.i (number_of c.greater-free.result) (number_of c.lesser-limit.result)
+both : (c : After-max-free) → let a = c.args in
+    leaves_from a.image.now a.family a.i c.max-free.result c.min-limit.result
     ≡ gap_in (blocks_in a.image.now a.family) (numbers a.range) (range_at a.image.now a.family a.i)
 both c =
     whole c.requires c.width_of-width.ensures.0 (numbers c.args.range)
-    (c.greater-free.ensures ∙ rw (c.words_of-2.ensures, c.words_at-2.ensures))
-    (c.lesser-limit.ensures ∙ rw (c.words_of.ensures, c.words_at.ensures))
+    (c.max-free.ensures ∙ rw (c.number-2.ensures, c.number_at-2.ensures))
+    (c.min-limit.ensures ∙ rw (c.number.ensures, c.number_at.ensures))
 
 pub offset_bounds-firsts-i : goal.offset_bounds-firsts-i
 offset_bounds-firsts-i c = let few = c.requires.gathered.few in let known = c.requires.known in search rules
@@ -34,23 +32,23 @@ overflow_cast-start c = let a = c.requires.gathered.fits c.args.i c.requires.kno
 pub overflow_add-start : goal.overflow_add-start
 overflow_add-start c = let a = c.requires.gathered.fits c.args.i c.requires.known in search rules
 
-pub words_at-requires : goal.words_at-requires
-words_at-requires c =
+pub number_at-requires : goal.number_at-requires
+number_at-requires c =
     let p = c.requires in
     let k = comparable-at p.gathered _ p.known c.width_of-width.ensures.0 in
     (k.wide, omega (arith, k.fits))
 
-pub words_at-requires-2 : goal.words_at-requires-2
-words_at-requires-2 c =
+pub number_at-requires-2 : goal.number_at-requires-2
+number_at-requires-2 c =
     let p = c.requires in
     let k = comparable-at p.gathered _ p.known c.width_of-width.ensures.0 in
     (k.wide, omega (arith, k.fits))
 
-pub returns-then-not-words_at_most : goal.returns-then-not-words_at_most
-returns-then-not-words_at_most c = walk_none c.requires _ _ c.words_at_most.ensures (c.if-not-words_at_most.true) ∙ both (goal.at.returns-then-not-words_at_most c).After-greater-free
+pub returns-then-limit-free : goal.returns-then-limit-free
+returns-then-limit-free c = walk_none c.requires _ _ c.if-limit-free.true ∙ both (goal.at.returns-then-limit-free c).After-max-free
 
 pub children_leave-requires : goal.children_leave-requires
-children_leave-requires c = (c.requires, leb-true _ _ (sym c.words_at_most.ensures ∙ c.if-not-words_at_most.false))
+children_leave-requires c = (c.requires, c.if-limit-free.false)
 
 pub returns : goal.returns
-returns c = c.children_leave.ensures ∙ both (goal.at.returns c).After-greater-free
+returns c = c.children_leave.ensures ∙ both (goal.at.returns c).After-max-free

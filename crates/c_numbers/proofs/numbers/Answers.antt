@@ -7,4 +7,4 @@ use Rattle.c_numbers.proofs.numbers.Goals as goal
 
 pub returns : goal.returns
 unfolding numbers_of reply_of
-returns c = rw (c.kind_number-kind.ensures, c.relation_number-relation.ensures) refl
+returns c = rw (c.status-status.ensures, c.number-reason.ensures, c.kind_number-kind.ensures, c.relation_number-relation.ensures) refl

@@ -1,7 +1,6 @@
 -- Each return is the field step by its tests (Fields.antt).
 use native.Mathlib.Omega.{arith}
 use Rattle.fields.proofs.Fields.{no-head, too_long, whole}
-use borrow.Author.Rules.{rules}
 use Rattle.fields.proofs.step_at.Goals as goal
 
 pub returns-then-image-at : goal.returns-then-image-at
@@ -11,7 +10,7 @@ pub returns-then-image-start : goal.returns-then-image-start
 returns-then-image-start c = no-head _ _ _ (omega arith)
 
 pub returns-then-image-end : goal.returns-then-image-end
-returns-then-image-end c = too_long _ _ _ _ _ c.wide-high.ensures.0 c.wide-low.ensures.0 (omega arith) (omega arith)
+returns-then-image-end c = too_long _ _ _ _ _ c.from-high.ensures c.from-low.ensures (omega arith) (omega arith)
 
 pub returns : goal.returns
-returns c = whole _ _ _ _ _ c.wide-high.ensures.0 c.wide-low.ensures.0 (omega arith) (omega arith)
+returns c = whole _ _ _ _ _ c.from-high.ensures c.from-low.ensures (omega arith) (omega arith)

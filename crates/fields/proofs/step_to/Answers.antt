@@ -1,7 +1,6 @@
 -- A test that fails leaves no such field, and where all hold there is one (Fields.antt).
 use native.Mathlib.Omega.{arith}
 use Rattle.fields.proofs.Fields.{none-ends, one-ends}
-use borrow.Author.Rules.{rules}
 use Rattle.fields.proofs.step_to.Goals as goal
 
 pub returns-then-image-at : goal.returns-then-image-at
@@ -10,8 +9,8 @@ returns-then-image-at c = none-ends _ _ _ _ _ _ (λ h k t l m. omega arith)
 pub returns-then-image-start : goal.returns-then-image-start
 returns-then-image-start c = none-ends _ _ _ _ _ _ (λ h k t l m. omega arith)
 
-pub returns-then-wide : goal.returns-then-wide
-returns-then-wide c = none-ends _ _ _ _ _ _ (λ h k t l m. omega arith)
+pub returns-then-from : goal.returns-then-from
+returns-then-from c = none-ends _ _ _ _ _ _ (λ h k t l m. omega arith)
 
 pub returns-then-len-low : goal.returns-then-len-low
 returns-then-len-low c = none-ends _ _ _ _ _ _ (λ h k t l m. omega arith)

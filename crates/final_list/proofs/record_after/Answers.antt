@@ -1,27 +1,30 @@
--- The changes applied, and the record at a number (Numbered.antt).
-use mathlib.Core.Path.{◌∙◌}
-use native.Mathlib.Omega.{arith}
-use Rattle.final_list.proofs.Changes.{is_read, after-merged}
+-- The changes applied, and the record at a number (Changes.antt, Numbered.antt).
+use mathlib.Core.Path.{◌∙◌, ap}
+use Rattle.std.specs.Prelude.{Ok, Err}
+use Rattle.final_list.specs.Final.{ChangedTo}
+use Rattle.merged.proofs.Started.{is_read}
+use Rattle.final_list.proofs.Changes.{changed-by, changed-long}
 use Rattle.final_list.proofs.Numbered.{record_refused, record_none, record_found}
 use Rattle.final_list.proofs.record_after.Goals as goal
+use Rattle.final_list.proofs.record_after.Goals.{In-Ok}
 
-pub returns-then-n-number : goal.returns-then-n-number
-returns-then-n-number c =
-    let l = rw c.in-Done.is at c.changed.ensures.changed in
-    c.no_record-then-n-number.ensures ∙ record_none _ _ _ (is_read c.requires) (after-merged l c.changed.ensures.full) l.0 c.if-n-number.true
+pub returns-then-changes-gt-MOST_CHANGES : goal.returns-then-changes-gt-MOST_CHANGES
+returns-then-changes-gt-MOST_CHANGES c = record_refused _ _ _ (is_read c.requires) 0 (changed-long _ _ c.if-changes-gt-MOST_CHANGES.true)
 
-pub offset_bounds-index-number : goal.offset_bounds-index-number
-offset_bounds-index-number c = omega (arith, (rw c.in-Done.is at c.changed.ensures.changed).2, c.if-n-number.false)
+pub returns-in_default : goal.returns-in_default
+returns-in_default c =
+    let m = c.new-records.ensures in
+    let z = changed-by c.new-records.result c.apply.new.records c.requires (ap (λ b. b.now) m.files.0) (ap (λ b. b.now) m.files.1) m.files.2 m.starts (Err c.in_default.field-0) c.in_default.ensures in
+    record_refused _ _ _ (is_read c.requires) _ z.0
 
-pub bounds-index-number : goal.bounds-index-number
-bounds-index-number c = omega (arith, (rw c.in-Done.is at c.changed.ensures.changed).2, c.changed.ensures.full, c.if-n-number.false)
+done : (c : In-Ok) → ChangedTo c.args.image.now c.args.changes.now c.apply.new.records (Ok tt)
+done c =
+    let m = c.new-records.ensures in
+    changed-by c.new-records.result c.apply.new.records c.requires (ap (λ b. b.now) m.files.0) (ap (λ b. b.now) m.files.1) m.files.2 m.starts (Ok tt) c.in-Ok.ensures
 
-pub returns-in-RefusedAt : goal.returns-in-RefusedAt
-returns-in-RefusedAt c =
-    let z = rw c.in-RefusedAt.is at c.changed.ensures.changed in
-    c.no_record.ensures ∙ record_refused _ _ _ (is_read c.requires) _ z.0
+pub returns-then-records-number : goal.returns-then-records-number
+returns-then-records-number c =
+    record_none _ _ _ (is_read c.requires) c.apply.new.records (done (goal.at.returns-then-records-number c).In-Ok) c.if-records-number.true
 
-pub returns-else-n-number : goal.returns-else-n-number
-returns-else-n-number c =
-    let l = rw c.in-Done.is at c.changed.ensures.changed in
-    c.record_at.ensures ∙ record_found _ _ _ (is_read c.requires) (after-merged l c.changed.ensures.full) l.0 c.if-n-number.false
+pub returns : goal.returns
+returns c = c.record.ensures.is ∙ record_found _ _ _ (is_read c.requires) c.apply.new.records (done (goal.at.returns c).In-Ok) c.if-records-number.false

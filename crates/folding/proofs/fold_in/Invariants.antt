@@ -1,16 +1,9 @@
--- `fold_in`: what is folded, with the rest folded, is the whole text folded; the measure is the bytes that are left.
-use mathlib.Core.Path.{◌≡◌, refl, sym, ◌∙◌}
+-- `fold_in`: what is folded, with the rest folded, is the whole text folded.
+use mathlib.Core.Path.{◌≡◌}
 use mathlib.Core.List.{◌++◌, map}
-use Prim.Native.Nat.{◌≤◌, ◌-◌}
-use native.Mathlib.Omega.{arith}
-use lib.ListN.{length, take, drop, length-set}
-use borrow.Author.Rules.{rules}
+use lib.ListN.{take, drop}
 use Rattle.texts.specs.Host.{fold}
-use Rattle.folding.proofs.Fold.{fold_step, fold_end}
 use Rattle.folding.proofs.fold_in.Given as goal
 
-abbrev pub invariant-loop-i : goal.invariant-loop-i
-invariant-loop-i l = (l.i ≤ length l.s) × (length l.s ≡ length l.initial.s) × (take l.i l.s ++ map fold (drop l.i l.s) ≡ map fold l.initial.s)
-
-abbrev pub decreases-loop-i : goal.decreases-loop-i
-decreases-loop-i l = length l.s - l.i
+abbrev pub invariant-loop-c : goal.invariant-loop-c
+invariant-loop-c l = take l.c-index l.s ++ map fold (drop l.c-index l.s) ≡ map fold l.initial.s

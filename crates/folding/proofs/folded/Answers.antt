@@ -1,20 +1,7 @@
--- `folded`: by whether the byte is a capital; a capital's small letter is a byte.
-use Prim.Native.Char.{code}
-use native.Mathlib.Omega.{arith}
-use Rattle.texts.specs.Host.{fold}
-use Rattle.octets.proofs.Connectives.{within_low, within-high}
+-- `folded` is std's small letter of a capital.
+use mathlib.Core.Path.{◌∙◌}
+use Rattle.folding.proofs.Fold.{lowercase-is}
 use Rattle.folding.proofs.folded.Goals as goal
 
-pub overflow_sub-result : goal.overflow_sub-result
-overflow_sub-result c = within_low (code "A") (code "Z") _ c.if-c.true
-
-pub overflow_add-result : goal.overflow_add-result
-overflow_add-result c = omega (arith, within-high (code "A") (code "Z") c.args.c c.if-c.true)
-
-pub returns-then-c : goal.returns-then-c
-unfolding fold
-returns-then-c c = rw c.if-c.true
-
 pub returns : goal.returns
-unfolding fold
-returns c = rw c.if-c.false
+returns c = c.to_ascii_lowercase.ensures.value ∙ lowercase-is c.args.c

@@ -1,10 +1,7 @@
-use mathlib.Core.Path.{◌≡◌, refl, sym, ◌∙◌}
-use Prim.Native.Nat.{◌≤◌, ◌-◌}
+use mathlib.Core.Path.{sym, ◌∙◌}
+use Prim.Native.Nat.{◌-◌}
 use native.Mathlib.Omega.{arith}
-use lib.ListN.{length, drop}
-use borrow.Author.Tests.{not-true, not-false}
-use borrow.Author.Rules.{rules}
-use Rattle.texts.specs.Compare.{alike}
+use lib.ListN.{length}
 use Rattle.folding.proofs.Alike.{alike-length, alike-not, alike_on, alike-after, alike_end}
 use Rattle.folding.proofs.same.Goals as goal
 
@@ -26,7 +23,7 @@ pub loop-i-init : goal.loop-i-init
 loop-i-init c =
     let a = c.args in
     let e = c.same_eights-i.ensures in
-    (e.0, refl, omega arith, alike-after a.fold a.a.now a.b.now c.same_eights-i.result e.0 (omega arith) e.1)
+    alike-after a.fold a.a.now a.b.now _ e.0 (omega arith) e.1
 
 pub returns-then-not-same_byte-2 : goal.returns-then-not-same_byte-2
 returns-then-not-same_byte-2 c =
@@ -37,9 +34,9 @@ pub loop-i-preserved : goal.loop-i-preserved
 loop-i-preserved c =
     let a = c.args in
     let on = alike_on a.fold a.a.now a.b.now c.loop-i.i (omega arith) (omega arith) (sym c.same_byte-in-loop-i.ensures ∙ c.if-not-same_byte-2.false) in
-    (omega arith, c.loop-i.invariant.1, c.loop-i.invariant.2, sym on ∙ c.loop-i.invariant.3)
+    sym on ∙ c.loop-i.invariant
 
 pub returns : goal.returns
 returns c =
     let a = c.args in
-    sym (alike_end a.fold a.a.now a.b.now c.loop-i.i (omega arith) (omega arith)) ∙ c.loop-i.invariant.3
+    sym (alike_end a.fold a.a.now a.b.now c.loop-i.i (omega arith) (omega arith)) ∙ c.loop-i.invariant

@@ -1,11 +1,7 @@
 -- `same_eights`: both are the same up to i; the measure is the bytes that are left.
-use mathlib.Core.Path.{◌≡◌, refl, sym, ◌∙◌}
+use mathlib.Core.Path.{◌≡◌}
 use Prim.Native.Nat.{◌≤◌, ◌-◌}
-use native.Mathlib.Omega.{arith}
 use lib.ListN.{take}
-use borrow.Author.Rules.{rules}
-use Rattle.octets.specs.Number.{Bytes}
-use Rattle.octets.proofs.Parts.{word_same}
 use Rattle.folding.proofs.same_eights.Given as goal
 
 abbrev pub invariant-loop-i : goal.invariant-loop-i

@@ -1,7 +1,6 @@
 -- By the format.
 use Rattle.formats.specs.Template.{is_allowed}
 use Rattle.octets.specs.Ascii.{ascii}
-use borrow.Author.Rules.{rules}
 use Rattle.formats.proofs.is_allowed.Goals as goal
 
 pub returns-in-Plain : goal.returns-in-Plain

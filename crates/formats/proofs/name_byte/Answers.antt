@@ -1,6 +1,5 @@
 -- The byte, or `_`.
 use mathlib.Core.Path.{refl}
-use borrow.Author.Rules.{rules}
 use Rattle.formats.proofs.name_byte.Goals as goal
 
 pub returns-then-is_allowed : goal.returns-then-is_allowed

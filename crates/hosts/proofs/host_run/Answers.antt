@@ -1,20 +1,17 @@
 use mathlib.Core.Path.{◌≡◌, refl}
-use Prim.Native.Nat.{◌≤◌, ◌-◌}
 use native.Mathlib.Omega.{arith}
-use borrow.Author.Rules.{rules}
 use Rattle.texts.specs.Run.{run}
-use Rattle.hosts.specs.Pairs.{follow_at}
 use Rattle.hosts.proofs.Hosts as hosts
 use Rattle.hosts.proofs.host_run.Goals as goal
 
 pub loop-i-init : goal.loop-i-init
 unfolding run
-loop-i-init c = (omega arith, refl)
+loop-i-init c = refl
 
 pub loop-i-preserved : goal.loop-i-preserved
-loop-i-preserved c = (omega arith, hosts.host-step _ _ _ _ _ _ c.requires.0 c.loop-i.invariant.1 c.may_follow-good.ensures)
+loop-i-preserved c = hosts.host-step _ _ _ _ _ _ c.requires.0 c.loop-i.invariant c.may_follow-good.ensures
 
 pub returns : goal.returns
 returns c =
     let e : c.loop-i.i ≡ c.args.n = omega arith in
-    rw e at c.loop-i.invariant.1
+    rw e at c.loop-i.invariant

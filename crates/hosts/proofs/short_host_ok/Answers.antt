@@ -1,6 +1,5 @@
 -- `short_host_ok`: pairs, first byte and last byte are the rule, as no label can be too long.
 use mathlib.Core.Path.{◌∙◌, sym}
-use borrow.Author.Tests.{not-true, not-false}
 use borrow.Author.Rules.{rules}
 use Rattle.hosts.proofs.Hosts as hosts
 use Rattle.hosts.proofs.short_host_ok.Goals as goal

@@ -1,4 +1,5 @@
 -- Each return is a law on the field that stands there and its judgement (Readings.antt).
+use Rattle.std.proofs.lemmas.Result.{err_from_is_err_and}
 use Rattle.image.proofs.Readings.{read_short, read-inside, read-good, read-bad}
 use Rattle.image.proofs.record_at.Goals as goal
 
@@ -8,13 +9,13 @@ returns-in_default c =
 
 pub judge-requires : goal.judge-requires
 judge-requires c =
-    let i = read-inside c.args.image.now c.args.at c.requires _ c.read.ensures _ _ _ c.in-Whole.is in
+    let i = read-inside c.args.image.now c.args.at c.requires _ c.read.ensures _ c.in-Some.is in
     (i.forward, i.within)
 
-pub returns-in-Good : goal.returns-in-Good
-returns-in-Good c =
-    read-good c.args.image.now c.args.at c.requires _ c.read.ensures _ _ _ c.in-Whole.is _ c.judge.ensures _ c.in-Good.is
+pub returns-in_err-middle : goal.returns-in_err-middle
+returns-in_err-middle c =
+    let p = err_from_is_err_and c.from_residual.result c.from_residual.ensures.1 in
+    rw (p.1, p.2) (read-bad c.args.image.now c.args.at c.requires _ c.read.ensures _ c.in-Some.is _ c.judge.ensures _ c.in_err-middle.was)
 
-pub returns-in-Bad : goal.returns-in-Bad
-returns-in-Bad c =
-    read-bad c.args.image.now c.args.at c.requires _ c.read.ensures _ _ _ c.in-Whole.is _ c.judge.ensures _ c.in-Bad.is
+pub returns : goal.returns
+returns c = read-good c.args.image.now c.args.at c.requires _ c.read.ensures _ c.in-Some.is _ c.judge.ensures _ c.in_ok-middle.was

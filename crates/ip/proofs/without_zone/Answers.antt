@@ -1,7 +1,6 @@
 -- `without_zone`: by whether a byte follows the first percent sign.
 use mathlib.Core.Path.{◌∙◌}
 use native.Mathlib.Omega.{arith}
-use borrow.Author.Rules.{rules}
 use Rattle.ip.proofs.Zones.{zone_dropped, zone_missing}
 use Rattle.ip.proofs.without_zone.Goals as goal
 

@@ -1,10 +1,7 @@
-use Prim.Native.Nat.{◌+◌, ◌*◌, ◌-◌, ◌≤◌}
-use mathlib.Core.Path.{◌≡◌, ◌∙◌}
-use mathlib.Core.List.{◌++◌}
+use Prim.Native.Nat.{◌+◌, ◌*◌}
+use mathlib.Core.Path.{◌∙◌}
 use native.Mathlib.Omega.{arith}
-use lib.ListN.{length, get_or, take, drop, length-set}
-use borrow.Author.Rules.{rules}
-use Rattle.ip_groups.specs.Groups.{groups_of}
+use lib.ListN.{get_or, length-set}
 use Rattle.octets.proofs.Fronts.{pushed}
 use Rattle.ip_groups.proofs.Arrays.{groups-next, groups-all}
 use Rattle.ip_groups.proofs.groups_of.Goals as goal
@@ -30,13 +27,12 @@ loop-i-preserved c =
     let a = c.args in
     let l = c.loop-i in
     let g = get_or a.bytes.now (2 * l.i) 0 * 256 + get_or a.bytes.now (2 * l.i + 1) 0 in (
-      omega arith,
-      length-set l.groups l.i g ∙ l.invariant.1,
-      pushed g l.i l.groups (omega arith) _ _ (rw (← groups-next a.bytes.now l.i (omega arith)) l.invariant.2),
+      length-set l.groups l.i g ∙ l.invariant.0,
+      pushed g l.i l.groups (omega arith) _ _ (rw (← groups-next a.bytes.now l.i (omega arith)) l.invariant.1),
     )
 
 pub returns : goal.returns
 returns c =
     let a = c.args in
     let l = c.loop-i in
-    groups-all a.bytes.now l.groups l.i c.requires l.invariant.1 (omega arith) l.invariant.2
+    groups-all a.bytes.now l.groups l.i c.requires l.invariant.0 (omega arith) l.invariant.1

@@ -1,9 +1,9 @@
-use Prim.Native.Nat.{◌-◌, ◌≤◌, ◌<◌}
+use Prim.Native.Nat.{◌-◌, ◌<◌}
 use mathlib.Core.Path.{◌≡◌, ◌∙◌}
 use native.Mathlib.Omega.{arith}
-use lib.ListN.{length, drop}
+use lib.ListN.{drop}
 use borrow.Author.Rules.{rules}
-use Rattle.ip_groups.proofs.Runs.{RunsFrom, runs_none, runs_all, first-most, zero-before, other-before, run-before, later-before}
+use Rattle.ip_groups.proofs.Runs.{runs_none, runs_all, first-most, zero-before, other-before, run-before, later-before}
 use Rattle.ip_groups.specs.Groups.{zeros_first}
 use Rattle.ip_groups.proofs.zero_runs.Goals as goal
 use Rattle.ip_groups.proofs.zero_runs.Goals.{Joined-groups-i-eq0, then-groups-i-eq0, else-groups-i-eq0}

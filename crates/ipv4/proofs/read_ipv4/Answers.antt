@@ -1,61 +1,46 @@
-use Prim.Native.Nat.{◌+◌, ◌≤◌, ◌-◌}
-use Prim.Native.Char.{code}
-use mathlib.Core.Path.{◌≡◌, refl, sym, ◌∙◌}
+use mathlib.Core.Path.{refl, sym, ◌∙◌}
+use Prim.Native.Nat.{◌+◌}
 use native.Mathlib.Omega.{arith}
-use lib.ListN.{length-drop, length, take, length-set}
-use lib.Seq.{length-take-le}
-use borrow.Author.Rules.{rules}
-use Rattle.ipv4.proofs.Octets.{prefixed-by_nil, ipv4-over, ipv4-bad, ipv4-done, ipv4-next}
-use Rattle.octets.specs.Lists.{found}
-use Rattle.ipv4.specs.Ipv4.{prefixed, octets}
+use lib.ListN.{length-drop, length-set}
 use Rattle.octets.proofs.Pieces.{rest-is}
 use Rattle.numeral.proofs.Laws.{decimal_le}
-use Rattle.octets.specs.Split.{split}
+use Rattle.ipv4.proofs.Octets.{prefixed-by_nil, ipv4-over, ipv4-bad, ipv4-done, ipv4-next}
 use Rattle.ipv4.proofs.read_ipv4.Goals as goal
 
-pub loop-n-init : goal.loop-n-init
-loop-n-init c = (omega arith, refl, prefixed-by_nil _, omega arith)
+pub loop-i-init : goal.loop-i-init
+loop-i-init c = (refl, omega arith, prefixed-by_nil _)
 
-pub slice_bounds-read_decimal-end : goal.slice_bounds-read_decimal-end
-slice_bounds-read_decimal-end c = sym (length-take-le _ _ c.first_piece-j.ensures.fits)
-
-pub returns-in_default : goal.returns-in_default
-unfolding found
-returns-in_default c =
-    let l = c.loop-n in
-    let p = c.first_piece-j in
-    ipv4-bad c.args.s.now l.t.now l.bytes l.n l.invariant.2 l.invariant.1 p.result p.ensures
-    (sym c.read_decimal-octet.ensures ∙ c.in_default.is)
+pub returns-in_err-bytes : goal.returns-in_err-bytes
+returns-in_err-bytes c =
+    let l = c.loop-i in
+    let p = c.first_piece-end in
+    c.from_residual.ensures ∙ ipv4-bad c.args.s.now l.rest.now l.bytes l.i l.invariant.2 l.invariant.0 p.result p.ensures (sym c.in_err-bytes.ensures)
 
 pub overflow_cast-bytes : goal.overflow_cast-bytes
-overflow_cast-bytes c = omega (arith, decimal_le 255 _ _ (sym c.read_decimal-octet.ensures ∙ c.in-Value.is))
+overflow_cast-bytes c = omega (arith, decimal_le 255 _ _ (sym c.in_ok-bytes.ensures))
 
-pub returns-then-j-t : goal.returns-then-j-t
-returns-then-j-t c =
-    let s = c.args.s.now in
-    let l = c.loop-n in
-    let p = c.first_piece-j in
-    ipv4-done s l.t.now l.bytes l.n l.invariant.2 l.invariant.1 p.result p.ensures c.in-Value.v
-    (sym c.read_decimal-octet.ensures ∙ c.in-Value.is) (omega arith) (omega arith)
+pub returns-then-end-rest : goal.returns-then-end-rest
+returns-then-end-rest c =
+    let l = c.loop-i in
+    let p = c.first_piece-end in
+    c.then_some.ensures
+    ∙ ipv4-done c.args.s.now l.rest.now l.bytes l.i l.invariant.2 l.invariant.0 p.result p.ensures _ (sym c.in_ok-bytes.ensures) (omega arith) (omega arith)
 
-pub loop-n-preserved : goal.loop-n-preserved
-loop-n-preserved c =
-    let s = c.args.s.now in
-    let l = c.loop-n in
-    let p = c.first_piece-j in (
-      omega arith,
-      simp length-set l.invariant.1,
-      rw (rest-is l.t.now (p.result + 1))
-          (ipv4-next s l.t.now l.bytes l.n l.invariant.2 l.invariant.1 p.result p.ensures c.in-Value.v
-          (sym c.read_decimal-octet.ensures ∙ c.in-Value.is) (omega arith) (omega arith)),
-      rw (rest-is l.t.now (p.result + 1)) (omega (arith, length-drop (p.result + 1) l.t.now)),
+pub overflow_add-rest : goal.overflow_add-rest
+overflow_add-rest c = omega arith
+
+pub loop-i-preserved : goal.loop-i-preserved
+loop-i-preserved c =
+    let l = c.loop-i in
+    let p = c.first_piece-end in
+    let rest = l.rest.now in (
+      simp length-set l.invariant.0,
+      rw (rest-is rest (p.result + 1)) (omega (arith, length-drop (p.result + 1) rest)),
+      rw (rest-is rest (p.result + 1))
+          (ipv4-next c.args.s.now rest l.bytes l.i l.invariant.2 l.invariant.0 p.result p.ensures _ (sym c.in_ok-bytes.ensures) (omega arith) (omega arith)),
     )
 
 pub returns : goal.returns
-unfolding found
 returns c =
-    let l = c.loop-n in
-    ipv4-over c.args.s.now l.t.now l.bytes l.n l.invariant.2 l.invariant.1 (omega arith)
-
-pub overflow_add-t : goal.overflow_add-t
-overflow_add-t c = omega arith
+    let l = c.loop-i in
+    ipv4-over c.args.s.now l.rest.now l.bytes l.i l.invariant.2 l.invariant.0 (omega arith)

@@ -8,10 +8,7 @@ use borrow.Author.Rules.{rules}
 use Rattle.links.proofs.gather.Given as goal
 
 abbrev pub invariant-loop-i : goal.invariant-loop-i
-invariant-loop-i l = (l.blocks.from + l.n ≡ l.i)
-    × (l.i ≤ l.blocks.until)
+invariant-loop-i l = (l.fn.blocks.from + l.n ≡ l.i)
+    × (l.i ≤ l.fn.blocks.until)
     × (length l.firsts ≡ 4096)
-    × ((k : ℕ) → k < l.n → get_or l.firsts k 0 ≡ get_or l.starts (l.blocks.from + k) 0 + 6)
-
-abbrev pub decreases-loop-i : goal.decreases-loop-i
-decreases-loop-i l = l.blocks.until - l.i
+    × ((k : ℕ) → k < l.n → get_or l.firsts k 0 ≡ get_or l.starts (l.fn.blocks.from + k) 0 + 6)

@@ -11,6 +11,3 @@ use Rattle.links.proofs.links_of.Given as goal
 
 abbrev pub invariant-loop-i : goal.invariant-loop-i
 invariant-loop-i l = (length l.links ≡ 4096) × (l.i ≤ l.n) × Linked (blocks_in l.image l.family) l.links l.i
-
-abbrev pub decreases-loop-i : goal.decreases-loop-i
-decreases-loop-i l = l.i

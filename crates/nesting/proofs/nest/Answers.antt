@@ -4,9 +4,8 @@ use lib.ListN.{length, get_or}
 use native.Mathlib.Omega.{arith}
 use Rattle.address.specs.Ranges.{Range}
 use Rattle.address.specs.Positions.{range_in}
-use Rattle.nesting.specs.Nest.{nest_of, open_last}
+use Rattle.nesting.specs.Nest.{open_last}
 use Rattle.nesting.proofs.Search.{nest-none, nest_on, nest-under, nest-out}
-use borrow.Author.Rules.{rules}
 use Rattle.nesting.proofs.nest.Goals as goal
 use Rattle.nesting.proofs.nest.Goals.{After-shared_slice_known-in-loop-d-1, Start}
 
@@ -38,8 +37,9 @@ numbers_at_most-requires-then-numbers_at_most c =
 
 pub returns-then-numbers_at_most-2 : goal.returns-then-numbers_at_most-2
 returns-then-numbers_at_most-2 c =
-    nest-under (lasts (goal.at.returns-then-numbers_at_most-2 c).Start) (range (goal.at.returns-then-numbers_at_most-2 c).Start) c.args.depth c.loop-d.d c.loop-d.invariant.1 c.loop-d-test.true
-    (sym c.numbers_at_most.ensures ∙ c.if-numbers_at_most.true) (sym c.numbers_at_most-then-numbers_at_most.ensures ∙ c.if-numbers_at_most-2.true)
+    let e : c.loop-d.d - 1 + 1 ≡ c.loop-d.d = omega (arith, c.loop-d-test.true) in
+    rw e (nest-under (lasts (goal.at.returns-then-numbers_at_most-2 c).Start) (range (goal.at.returns-then-numbers_at_most-2 c).Start) c.args.depth c.loop-d.d c.loop-d.invariant.1 c.loop-d-test.true
+    (sym c.numbers_at_most.ensures ∙ c.if-numbers_at_most.true) (sym c.numbers_at_most-then-numbers_at_most.ensures ∙ c.if-numbers_at_most-2.true))
 
 pub returns-then-numbers_at_most : goal.returns-then-numbers_at_most
 returns-then-numbers_at_most c =

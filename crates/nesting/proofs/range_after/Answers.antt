@@ -1,10 +1,8 @@
 -- Three comparisons decide the sorting of two ranges.
 use mathlib.Core.Path.{sym, ◌∙◌}
-use borrow.Author.Tests.{not-true, not-false}
 use Rattle.address.specs.Ranges.{Range}
 use Rattle.address.specs.Positions.{range_in}
 use Rattle.nesting.proofs.Families.{after_first, before-first, same_first}
-use borrow.Author.Rules.{rules}
 use Rattle.nesting.proofs.range_after.Goals as goal
 use Rattle.nesting.proofs.range_after.Goals.{After-numbers_at_most}
 

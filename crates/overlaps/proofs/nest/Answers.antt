@@ -1,4 +1,3 @@
-use borrow.Author.Rules.{rules}
 use mathlib.Core.Path.{◌≡◌, refl, sym, ◌∙◌, ap, subst}
 use mathlib.Core.Bool.{Bool}
 use mathlib.Core.List.{List}
@@ -11,9 +10,9 @@ use Rattle.octets.specs.Positions.{Wide, number_in}
 use Rattle.address.specs.Ranges.{Range}
 use Rattle.records.specs.Record.{range_of, first_of, last_of}
 use Rattle.nesting.proofs.Families.{wide-family}
-use Rattle.nesting.specs.Nest.{nest_of}
 use Rattle.nesting.proofs.Search.{nest-none, nest_on, nest-under, nest-out}
-use Rattle.merged.specs.Held.{bytes_at, parsed_from, Recorded}
+use Rattle.merged.specs.Held.{parsed_from, Recorded}
+use Rattle.merged.specs.Listed.{bytes_in}
 use Rattle.overlaps.specs.Overlaps.{open_last}
 use Rattle.merged.proofs.Known.{known}
 use Rattle.overlaps.proofs.Nests.{first_read, last-read, room-read}
@@ -51,7 +50,7 @@ open_by r x w k h l e z o q =
     })
 
 opened : (c : After-record_at-open) → let a = c.args in
-    Open a.r.now c.record_at-open.result.now (bytes_at a.image.now a.changes.now (get_or a.stack.now (c.loop-d.d - 1) 0)) c.width_of-width.result
+    Open a.r.now c.record_at-open.result.now (bytes_in a.records.now (get_or a.stack.now (c.loop-d.d - 1) 0)) c.width_of-width.result
 opened c =
     let l = c.loop-d in
     let p = c.requires in
@@ -79,15 +78,16 @@ numbers_at_most-requires-then-numbers_at_most c =
 
 -- the open blocks and the range, as the laws take them
 abbrev opens : At-loop-d → ℕ → ℕ
-opens l = let a = l.args in open_last a.image.now a.changes.now a.stack.now
+opens l = let a = l.args in open_last a.records.now a.stack.now
 
 abbrev range : At-loop-d → Range
 range l = range_of (parsed_from l.args.r.now)
 
 pub returns-then-numbers_at_most-2 : goal.returns-then-numbers_at_most-2
 returns-then-numbers_at_most-2 c =
-    nest-under (opens (goal.at.returns-then-numbers_at_most-2 c).At-loop-d) (range (goal.at.returns-then-numbers_at_most-2 c).At-loop-d) c.args.depth c.loop-d.d c.loop-d.invariant.2 c.loop-d-test.true
-    ((opened (goal.at.returns-then-numbers_at_most-2 c).After-record_at-open).first-test _ c.numbers_at_most.ensures ∙ c.if-numbers_at_most.true) ((opened (goal.at.returns-then-numbers_at_most-2 c).After-record_at-open).last-test _ c.numbers_at_most-then-numbers_at_most.ensures ∙ c.if-numbers_at_most-2.true)
+    let e : c.loop-d.d - 1 + 1 ≡ c.loop-d.d = omega (arith, c.loop-d-test.true) in
+    rw e (nest-under (opens (goal.at.returns-then-numbers_at_most-2 c).At-loop-d) (range (goal.at.returns-then-numbers_at_most-2 c).At-loop-d) c.args.depth c.loop-d.d c.loop-d.invariant.2 c.loop-d-test.true
+    ((opened (goal.at.returns-then-numbers_at_most-2 c).After-record_at-open).first-test _ c.numbers_at_most.ensures ∙ c.if-numbers_at_most.true) ((opened (goal.at.returns-then-numbers_at_most-2 c).After-record_at-open).last-test _ c.numbers_at_most-then-numbers_at_most.ensures ∙ c.if-numbers_at_most-2.true))
 
 pub returns-then-numbers_at_most : goal.returns-then-numbers_at_most
 returns-then-numbers_at_most c =

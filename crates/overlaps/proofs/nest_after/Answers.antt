@@ -19,7 +19,7 @@ abbrev q : Start → Record
 q a = parsed_from a.args.r.now
 
 abbrev lasts : Start → ℕ → ℕ
-lasts a = open_last a.args.image.now a.args.changes.now a.args.stack.now
+lasts a = open_last a.args.records.now a.args.stack.now
 
 pub bounds-r-0 : goal.bounds-r-0
 bounds-r-0 c = omega (arith, ((known _ c.requires.1)).long)
@@ -43,7 +43,7 @@ nest-requires c =
       few = c.requires.0;
       whole = c.requires.1;
       block = omega (arith, (own (goal.at.nest-requires c).Start).tag_is, h);
-      opened = subst (OpenBlocks c.args.image.now c.args.changes.now c.args.stack.now c.args.depth) e (c.requires.2 e (omega (arith, c.if-r-before.false, h)));
+      opened = subst (OpenBlocks c.args.records.now c.args.stack.now c.args.depth) e (c.requires.2 e (omega (arith, c.if-r-before.false, h)));
     }
 
 pub returns : goal.returns

@@ -1,23 +1,23 @@
-use mathlib.Core.Path.{refl, sym, ◌∙◌}
-use native.Mathlib.Omega.{arith}
-use Rattle.octets.proofs.Scans.{every_on, every-bad, every-end}
+-- What the chain answers, by the test of each byte.
+use mathlib.Core.Path.{◌≡◌, refl, ap, ◌∙◌}
+use mathlib.Core.Bool.{Bool, ◌&&◌}
+use mathlib.Core.List.{List, [], ◌∷◌}
+use Prim.Native.Nat.{ℕ}
+use Rattle.std.proofs.Common.{rules, tests}
+use Rattle.std.proofs.lemmas.Iterator.{YieldsList-from_slice}
+use Rattle.std.proofs.lemmas.Iterator.Search.{all_from_yields_List}
+use Rattle.std.specs.List.{list_all}
+use Rattle.octets.specs.Lists.{every}
 use Rattle.pattern.specs.Pattern.{pattern_byte}
 use Rattle.pattern.proofs.are_pattern_bytes.Goals as goal
 
-pub loop-i-init : goal.loop-i-init
-loop-i-init c = (omega arith, refl)
-
-pub returns-then-not-is_pattern_byte : goal.returns-then-not-is_pattern_byte
-returns-then-not-is_pattern_byte c =
-    let a = c.args in
-    sym (every-bad (pattern_byte a.text) a.s.now c.loop-i.i (omega arith) (sym c.is_pattern_byte.ensures ∙ c.if-not-is_pattern_byte.true)) ∙ c.loop-i.invariant.1
-
-pub loop-i-preserved : goal.loop-i-preserved
-loop-i-preserved c =
-    let a = c.args in
-    (omega arith, sym (every_on (pattern_byte a.text) a.s.now c.loop-i.i (omega arith) (sym c.is_pattern_byte.ensures ∙ c.if-not-is_pattern_byte.false)) ∙ c.loop-i.invariant.1)
+all-every : (p : ℕ → Bool) (s : List ℕ) → list_all p s ≡ every p s
+unfolding every
+all-every p [] = refl
+all-every p (c ∷ s) = ap (λ (b : Bool). p c && b) (all-every p s)
 
 pub returns : goal.returns
 returns c =
-    let a = c.args in
-    sym (every-end (pattern_byte a.text) a.s.now c.loop-i.i (omega arith)) ∙ c.loop-i.invariant.1
+    let test = pattern_byte c.args.text in
+    all_from_yields_List test _ _ _ c.all.ensures.ran (YieldsList-from_slice c.args.s.now cc) (λ x b q k. search (rules, tests))
+    ∙ all-every test c.args.s.now

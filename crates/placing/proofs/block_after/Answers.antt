@@ -7,13 +7,3 @@ use Rattle.placing.proofs.block_after.Goals as goal
 
 pub returns-then-not-range_after : goal.returns-then-not-range_after
 returns-then-not-range_after c = rw (sym c.range_after.ensures ∙ c.if-not-range_after.true)
-
-pub returns-in-Under : goal.returns-in-Under
-returns-in-Under c =
-    ap₂ step_in (sym (c.if-not-range_after.false) ∙ c.range_after.ensures)
-    (sym c.in-Under.is ∙ c.nest.ensures)
-
-pub returns-in-Crossing : goal.returns-in-Crossing
-returns-in-Crossing c =
-    ap₂ step_in (sym (c.if-not-range_after.false) ∙ c.range_after.ensures)
-    (sym c.in-Crossing.is ∙ c.nest.ensures)

@@ -1,9 +1,6 @@
--- The high half, then the low one into the rest of the buffer.
-use Rattle.output.proofs.Writing.{written_both}
-use Rattle.prefix_bytes.proofs.Bytes.{two-halves}
-use borrow.Author.Rules.{rules}
+-- The bytes that std makes of the number, copied to the front.
+use Rattle.prefix_bytes.proofs.Bytes.{copied}
 use Rattle.prefix_bytes.proofs.put8.Goals as goal
 
 pub returns : goal.returns
-returns c =
-    rw (two-halves c.args.v) (written_both c.put4.ensures c.put4-2.ensures)
+returns c = copied 8 c.args.v c.args.out.now c.copy_from_slice.ensures.after c.to_be_bytes.ensures

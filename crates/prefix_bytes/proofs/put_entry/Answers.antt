@@ -3,7 +3,6 @@ use native.Mathlib.Omega.{arith}
 use Rattle.output.proofs.Writing.{written_one}
 use Rattle.prefix_bytes.specs.Entry.{entry_of}
 use Rattle.prefix_bytes.proofs.Widths.{at-most-sixteen}
-use borrow.Author.Rules.{rules}
 use Rattle.prefix_bytes.proofs.put_entry.Goals as goal
 
 pub overflow_cast-bits : goal.overflow_cast-bits

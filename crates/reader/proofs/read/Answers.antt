@@ -1,5 +1,4 @@
 -- The field no field on is the field at the position.
-use borrow.Author.Rules.{rules}
 use Rattle.fields.specs.Positions.{passed}
 use Rattle.reader.proofs.read.Goals as goal
 

@@ -1,14 +1,20 @@
--- The fields, read one after another, are all there exactly if the record is whole (Passing.antt).
-use mathlib.Core.Path.{ap}
-use Prim.Native.Nat.{◌*◌}
+-- The fields, read one after another, end with the record exactly if it is whole (Passing.antt).
+use mathlib.Core.Path.{◌≡◌, ◌∙◌}
+use lib.Dec.{eqb}
+use lib.Seq.{slice}
+use Rattle.std.specs.Prelude.{Some}
+use Rattle.std.specs.Option.{option_eq}
+use Rattle.records.specs.Record.{is_whole, record_of}
 use Rattle.record_defect.proofs.Passing.{named-is, block-is}
 use Rattle.record_defect.proofs.is_whole.Goals as goal
-
-pub returns-then-tag-gt-AS_BLOCK : goal.returns-then-tag-gt-AS_BLOCK
-returns-then-tag-gt-AS_BLOCK c =
-    named-is c.args.image.now c.args.tag c.args.start c.args.end c.requires.0 c.requires.1 c.if-tag-gt-AS_BLOCK.true _ _ c.end_at-middle.ensures.0 c.end_at.ensures.0
+use Rattle.record_defect.proofs.is_whole.Goals.{then-field-gt-AS_BLOCK, else-field-gt-AS_BLOCK}
 
 pub returns : goal.returns
 returns c =
-    block-is c.args.image.now c.args.tag c.args.start c.args.end c.requires.0 c.requires.1 c.requires.2 c.if-tag-gt-AS_BLOCK.false _ (ap (◌*◌ 2) c.width_of.ensures.0) _ _ _ _
-    c.end_at-at.ensures.0 c.end_at-middle-2.ensures.0 c.end_at-to.ensures.0 c.end_at-last.ensures.0
+    let a = c.args in
+    let judged : option_eq eqb c.if-field-gt-AS_BLOCK.last (Some a.field.end) ≡ is_whole (record_of a.field.tag (slice a.field.start a.field.end a.image.now)) =
+    elim c.if-field-gt-AS_BLOCK.branch [
+      | then-field-gt-AS_BLOCK w ↦ rw (w.last-is, w.texts_end-last.ensures) (named-is a.image.now a.field.tag a.field.start a.field.end c.requires.0 c.requires.1 w.if-field-gt-AS_BLOCK.true)
+      | else-field-gt-AS_BLOCK w ↦ rw (w.last-is, w.block_end-last.ensures) (block-is a.image.now a.field.tag a.field.start a.field.end c.requires.0 c.requires.1 c.requires.2 w.if-field-gt-AS_BLOCK.false)
+    ] in
+    c.eq.ensures ∙ judged

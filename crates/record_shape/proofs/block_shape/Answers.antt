@@ -4,8 +4,8 @@ use Rattle.record_shape.proofs.block_shape.Goals as goal
 
 pub sized_shape-requires : goal.sized_shape-requires
 sized_shape-requires c =
-    (c.requires.0, c.requires.1, c.requires.2, c.requires.3, rw (eq-eqb _ _ c.if-tag-eq-IPV6_NETWORK.true))
+    (c.requires.0, c.requires.1, c.requires.2, c.requires.3, rw (eq-eqb _ _ c.if-field-eq-IPV6_NETWORK.true))
 
 pub sized_shape-requires-2 : goal.sized_shape-requires-2
 sized_shape-requires-2 c =
-    (c.requires.0, c.requires.1, c.requires.2, c.requires.3, rw (ne_eqb _ _ c.if-tag-eq-IPV6_NETWORK.false))
+    (c.requires.0, c.requires.1, c.requires.2, c.requires.3, rw (ne_eqb _ _ c.if-field-eq-IPV6_NETWORK.false))

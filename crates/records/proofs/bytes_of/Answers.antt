@@ -1,5 +1,4 @@
 -- A part of the image.
-use borrow.Author.Rules.{rules}
 use Rattle.fields.specs.Slices.{part_slice}
 use Rattle.records.proofs.bytes_of.Goals as goal
 

@@ -1,6 +1,5 @@
 -- What is found is reported.
 use Rattle.output.proofs.Reports.{same-reported}
-use borrow.Author.Rules.{rules}
 use Rattle.relations.proofs.list_around.Goals as goal
 
 pub returns : goal.returns

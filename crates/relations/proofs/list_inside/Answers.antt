@@ -1,6 +1,5 @@
 -- What was collected is reported.
 use Rattle.output.proofs.Reports.{in_hits, as_many, few-reported, reported}
-use borrow.Author.Rules.{rules}
 use Rattle.relations.proofs.list_inside.Goals as goal
 
 pub slice_bounds-hits-end : goal.slice_bounds-hits-end

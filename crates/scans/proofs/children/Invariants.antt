@@ -1,5 +1,5 @@
 -- `scans::children` meets its contract: what is found so far, followed by what the pass over the rest finds, is the answer.
-use Prim.Native.Nat.{◌≤◌, ◌<◌, ◌-◌, ◌+◌, ◌*◌}
+use Prim.Native.Nat.{◌≤◌, ◌<◌, ◌+◌, ◌*◌}
 use mathlib.Core.List.{◌++◌}
 use mathlib.Core.Path.{◌≡◌}
 use lib.ListN.{length, take}
@@ -13,13 +13,10 @@ use Rattle.scans.proofs.Walks.{blocks_left}
 use Rattle.scans.proofs.children.Given as goal
 
 abbrev pub invariant-loop-i : goal.invariant-loop-i
-invariant-loop-i l = (l.blocks.from ≤ l.i)
-    × (l.i ≤ l.blocks.until)
+invariant-loop-i l = (l.fn.blocks.from ≤ l.i)
+    × (l.i ≤ l.fn.blocks.until)
     × (l.n ≤ l.i)
     × (length l.hits ≡ 4096)
     × (0 < l.n → l.kept + 2 * l.width ≤ length l.image)
-    × (take l.n l.hits ++ down_pass (numbers l.range) (free_after l.n (number_in l.image (l.kept + l.width) l.width)) (blocks_left l.image l.blocks.low l.i)
-    ≡ down (blocks_in l.image l.blocks.low) (numbers l.range))
-
-abbrev pub decreases-loop-i : goal.decreases-loop-i
-decreases-loop-i l = l.blocks.until - l.i
+    × (take l.n l.hits ++ down_pass (numbers l.range) (free_after l.n (number_in l.image (l.kept + l.width) l.width)) (blocks_left l.image l.fn.blocks.low l.i)
+    ≡ down (blocks_in l.image l.fn.blocks.low) (numbers l.range))

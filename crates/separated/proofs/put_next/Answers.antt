@@ -2,10 +2,9 @@
 use mathlib.Core.Path.{ap, ◌∙◌}
 use native.Mathlib.Omega.{arith}
 use lib.ListN.{length, length-set}
-use Rattle.separated.specs.Base.{radix}
+use Rattle.digits.specs.Base.{radix}
 use Rattle.numeral.proofs.Spelled.{following-one}
 use Rattle.output.proofs.Writing.{written-nothing, written_one, written_both, rest-length}
-use borrow.Author.Rules.{rules}
 use Rattle.separated.proofs.put_next.Goals as goal
 
 pub bounds-text-0 : goal.bounds-text-0

@@ -5,7 +5,7 @@ use native.Mathlib.Omega.{arith}
 use lib.ListN.{length, drop}
 use Rattle.octets.proofs.Pieces.{rest-is}
 use Rattle.numeral.specs.Digits.{spelled, following}
-use Rattle.separated.specs.Base.{radix}
+use Rattle.digits.specs.Base.{radix}
 use Rattle.output.proofs.Writing.{written-nothing, written_both, rest-length}
 use Rattle.separated.proofs.Following.{spelled_none, spelled-first, length-first}
 use borrow.Author.Rules.{rules}

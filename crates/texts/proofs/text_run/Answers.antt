@@ -1,19 +1,18 @@
-use mathlib.Core.Path.{◌≡◌, refl}
-use Prim.Native.Nat.{◌≤◌, ◌-◌}
+use mathlib.Core.Path.{refl}
 use native.Mathlib.Omega.{arith}
-use borrow.Author.Rules.{rules}
-use Rattle.texts.specs.Run.{run, text_at}
-use Rattle.texts.proofs.Texts as texts
+use lib.Seq.{take_all}
+use Rattle.octets.specs.Lists.{every}
+use Rattle.texts.proofs.Texts.{text-step}
 use Rattle.texts.proofs.text_run.Goals as goal
 
-pub loop-i-init : goal.loop-i-init
-unfolding run
-loop-i-init c = (omega arith, refl)
+pub loop-b-init : goal.loop-b-init
+unfolding every
+loop-b-init c = refl
 
-pub loop-i-preserved : goal.loop-i-preserved
-loop-i-preserved c = (omega arith, texts.text-step _ _ _ _ _ c.loop-i.invariant.1)
+pub loop-b-preserved : goal.loop-b-preserved
+loop-b-preserved c = text-step _ _ _ _ (omega arith) c.loop-b.invariant
 
 pub returns : goal.returns
 returns c =
-    let e : c.loop-i.i ≡ c.args.n = omega arith in
-    rw e at c.loop-i.invariant.1
+    let s = c.args.s.now in
+    rw (take_all c.loop-b.b-index s (omega arith)) at c.loop-b.invariant

@@ -1,14 +1,9 @@
--- `text_run`: the bytes so far are good exactly if the run of i places is; a step is one place more.
-use mathlib.Core.Path.{◌≡◌, refl}
-use Prim.Native.Nat.{◌≤◌, ◌-◌}
-use native.Mathlib.Omega.{arith}
-use borrow.Author.Rules.{rules}
-use Rattle.texts.specs.Run.{run, text_at}
-use Rattle.texts.proofs.Texts as texts
+-- `text_run`: whether all bytes so far are good.
+use mathlib.Core.Path.{◌≡◌}
+use lib.ListN.{take}
+use Rattle.octets.specs.Lists.{every}
+use Rattle.texts.specs.Texts.{text_byte}
 use Rattle.texts.proofs.text_run.Given as goal
 
-abbrev pub invariant-loop-i : goal.invariant-loop-i
-invariant-loop-i l = (l.i ≤ l.n) × (l.good ≡ run (text_at l.low l.s) l.at l.i)
-
-abbrev pub decreases-loop-i : goal.decreases-loop-i
-decreases-loop-i l = l.n - l.i
+abbrev pub invariant-loop-b : goal.invariant-loop-b
+invariant-loop-b l = l.good ≡ every (text_byte l.low) (take l.b-index l.s)

@@ -1,4 +1,4 @@
--- The loop's invariant: what is left from i on decides. A word of eight bytes of each passes, or ends it.
+-- The loop's invariant: what is left from i on decides. Eight bytes of each are the same, or decide.
 use mathlib.Core.Path.{◌≡◌}
 use Prim.Native.Nat.{◌≤◌, ◌-◌}
 use lib.ListN.{length, drop}

@@ -1,13 +1,7 @@
--- Four bytes, low byte first and swapped, are the four digits.
-use mathlib.Core.Path.{◌∙◌, ap}
+-- The sum of four bytes, each by its place, is their number.
 use native.Mathlib.Omega.{arith}
-use Rattle.octets.specs.Words.{swap4_of}
-use Rattle.octets.proofs.Pairs as words
+use Rattle.octets.proofs.Digits.{four_bytes}
 use Rattle.words.proofs.word4.Goals as goal
 
 pub returns : goal.returns
-returns c = (
-  c.swap4.ensures.0 ∙ ap swap4_of c.low4.ensures.0
-      ∙ words.four _ _ c.requires (λ i h. omega (arith, c.type_inv.s i)),
-  c.swap4.ensures.1,
-)
+returns c = omega (arith, c.from_be_bytes.ensures, four_bytes c.args.s.now c.args.at c.requires)

@@ -1,0 +1,35 @@
+-- The paths of a text as a slice's own `split` gives them, and how many they are.
+use Rattle.std.specs.List.{slice_split, onto_first, count_by}
+use Rattle.std.proofs.lemmas.List.Splits.{length-slice_split}
+use Prim.Native.Nat.{ℕ, ◌+◌, ◌<◌}
+use Prim.Native.Char.{code}
+use mathlib.Core.Path.{◌≡◌, refl, ap, ◌∙◌}
+use mathlib.Core.Bool.{cond}
+use mathlib.Core.List.{List, [], ◌∷◌}
+use lib.Dec.{eqb}
+use lib.ListN.{length, drop, get_or}
+use lib.Seq.{drop-cons}
+use native.Mathlib.Numerals.{add-one}
+use Rattle.octets.specs.Split.{join_first, split}
+use Rattle.batches.specs.Batch.{paths_of}
+
+onto : (c : ℕ) (pieces : List (List ℕ)) → join_first (c ∷ []) pieces ≡ onto_first c pieces
+unfolding join_first
+onto c [] = refl
+onto c (p ∷ pieces) = refl
+
+split-std : (sep : ℕ) (s : List ℕ) → split sep s ≡ slice_split (λ c. eqb c sep) s
+unfolding split
+split-std sep [] = refl
+split-std sep (c ∷ s) = rw (split-std sep s, onto c (slice_split (λ c. eqb c sep) s)) refl
+
+pub paths_split : (text : List ℕ) → paths_of text ≡ slice_split (λ b. eqb b 10) text
+unfolding paths_of
+paths_split text = split-std (code "\n") text
+
+pub paths_counted : (text : List ℕ) → count_by (λ b. eqb b 10) text + 1 ≡ length (paths_of text)
+paths_counted text = rw (paths_split text, length-slice_split (λ b. eqb b 10) text)
+
+-- the paths that are left at a turn begin with its item
+pub left-begins : (paths : List (List ℕ)) (path : List ℕ) (n : ℕ) → (n < length paths) × (path ≡ get_or paths n path) → drop n paths ≡ path ∷ drop (n + 1) paths
+left-begins paths path n h = drop-cons paths n path h.0 ∙ rw (← h.1, add-one n) refl

@@ -1,8 +1,0 @@
--- Serves contracts and proofs. The number that a base stands for.
-use Rattle.std.specs.Prelude.{ℕ}
-use Rattle.separated.specs.declared.Base.{Base}
-use Rattle.separated.specs.declared.Base.TheVariants.{Decimal, Hex}
-
-abbrev pub radix : Base → ℕ
-radix Decimal = 10
-radix Hex = 16
