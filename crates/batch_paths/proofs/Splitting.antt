@@ -1,5 +1,5 @@
 -- The paths of a text as a slice's own `split` gives them, and how many they are.
-use Rattle.std.specs.List.{slice_split, onto_first, count_by}
+use Rattle.std.specs.List.{slice_split, count_by}
 use Rattle.std.proofs.lemmas.List.Splits.{length-slice_split}
 use Prim.Native.Nat.{ℕ, ◌+◌, ◌<◌}
 use Prim.Native.Char.{code}
@@ -10,18 +10,8 @@ use lib.Dec.{eqb}
 use lib.ListN.{length, drop, get_or}
 use lib.Seq.{drop-cons}
 use native.Mathlib.Numerals.{add-one}
-use Rattle.octets.specs.Split.{join_first, split}
+use Rattle.path.proofs.Splitting.{split-std}
 use Rattle.batches.specs.Batch.{paths_of}
-
-onto : (c : ℕ) (pieces : List (List ℕ)) → join_first (c ∷ []) pieces ≡ onto_first c pieces
-unfolding join_first
-onto c [] = refl
-onto c (p ∷ pieces) = refl
-
-split-std : (sep : ℕ) (s : List ℕ) → split sep s ≡ slice_split (λ c. eqb c sep) s
-unfolding split
-split-std sep [] = refl
-split-std sep (c ∷ s) = rw (split-std sep s, onto c (slice_split (λ c. eqb c sep) s)) refl
 
 pub paths_split : (text : List ℕ) → paths_of text ≡ slice_split (λ b. eqb b 10) text
 unfolding paths_of

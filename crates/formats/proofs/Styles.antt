@@ -26,6 +26,7 @@ same_template Json width name = refl
 -- what has no name in it is the same for every name
 
 pub same_slash : (t : Style) (name : List ℕ) → (template_at t []).slash ≡ (template_at t name).slash
+unfolding template_of
 same_slash S.Plain name = refl
 same_slash S.CiscoIpv4 name = refl
 same_slash S.CiscoIpv6 name = refl
@@ -34,7 +35,7 @@ same_slash S.Juniper name = refl
 same_slash S.Json name = refl
 
 pub same_end : (t : Style) (name : List ℕ) (left : ℕ) → end_of (template_at t []) left ≡ end_of (template_at t name) left
-unfolding end_of
+unfolding end_of template_of
 same_end S.Plain name left = refl
 same_end S.CiscoIpv4 name left = refl
 same_end S.CiscoIpv6 name left = refl
@@ -43,6 +44,7 @@ same_end S.Juniper name left = refl
 same_end S.Json name left = refl
 
 pub same_foot : (t : Style) (name : List ℕ) → (template_at t []).foot ≡ (template_at t name).foot
+unfolding template_of
 same_foot S.Plain name = refl
 same_foot S.CiscoIpv4 name = refl
 same_foot S.CiscoIpv6 name = refl

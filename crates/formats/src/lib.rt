@@ -104,7 +104,7 @@ fn put_around(front: &[u8], name: &[u8], back: &[u8], out: &mut [u8]) -> usize
 }
 
 // What stands before the first prefix.
-#[tactic(auto, unfolding(octets::specs::Ascii::ascii))]
+#[tactic(auto, unfolding(octets::specs::Ascii::ascii, crate::specs::Template::template_of))]
 pub fn put_head(style: Style, name: &[u8], out: &mut [u8]) -> usize
     requires { length (template_at style name.now).head ≤ length out.old }
     ensures { Written (template_at style name.now).head out.old out.new result }
@@ -125,7 +125,7 @@ pub fn put_head(style: Style, name: &[u8], out: &mut [u8]) -> usize
 }
 
 // What stands before each prefix.
-#[tactic(auto, unfolding(octets::specs::Ascii::ascii))]
+#[tactic(auto, unfolding(octets::specs::Ascii::ascii, crate::specs::Template::template_of))]
 pub fn put_before(style: Style, name: &[u8], out: &mut [u8]) -> usize
     requires { length (template_at style name.now).before ≤ length out.old }
     ensures { Written (template_at style name.now).before out.old out.new result }
@@ -141,7 +141,7 @@ pub fn put_before(style: Style, name: &[u8], out: &mut [u8]) -> usize
 }
 
 // What stands between an address and its length.
-#[tactic(auto, unfolding(octets::specs::Ascii::ascii))]
+#[tactic(auto, unfolding(octets::specs::Ascii::ascii, crate::specs::Template::template_of))]
 pub fn put_slash(style: Style, out: &mut [u8]) -> usize
     requires { length (template_at style []).slash ≤ length out.old }
     ensures { Written (template_at style []).slash out.old out.new result }
@@ -153,7 +153,7 @@ pub fn put_slash(style: Style, out: &mut [u8]) -> usize
 }
 
 // What follows each prefix but the last.
-#[tactic(auto, unfolding(octets::specs::Ascii::ascii))]
+#[tactic(auto, unfolding(octets::specs::Ascii::ascii, crate::specs::Template::template_of))]
 fn put_separator(style: Style, out: &mut [u8]) -> usize
     requires { length (template_at style []).separator ≤ length out.old }
     ensures { Written (template_at style []).separator out.old out.new result }
@@ -167,7 +167,7 @@ fn put_separator(style: Style, out: &mut [u8]) -> usize
 }
 
 // What follows the last prefix.
-#[tactic(auto, unfolding(octets::specs::Ascii::ascii))]
+#[tactic(auto, unfolding(octets::specs::Ascii::ascii, crate::specs::Template::template_of))]
 fn put_last(style: Style, out: &mut [u8]) -> usize
     requires { length (template_at style []).last ≤ length out.old }
     ensures { Written (template_at style []).last out.old out.new result }
@@ -191,7 +191,7 @@ pub fn put_end(style: Style, left: usize, out: &mut [u8]) -> usize
 }
 
 // What stands at the end.
-#[tactic(auto, unfolding(octets::specs::Ascii::ascii))]
+#[tactic(auto, unfolding(octets::specs::Ascii::ascii, crate::specs::Template::template_of))]
 pub fn put_foot(style: Style, out: &mut [u8]) -> usize
     requires { length (template_at style []).foot ≤ length out.old }
     ensures { Written (template_at style []).foot out.old out.new result }
