@@ -79,6 +79,10 @@ while read -r how name; do
     told "the archive does not have $name as '$how'" $?
 done <tests/inlined.txt
 
+# what it needs from outside, as include/rdap.h says
+[ "$(nm -u "$archive" | awk 'NF == 2 { print $2 }' | sort -u | xargs)" = "memcpy memset" ]
+told "the archive needs memcpy and memset alone" $?
+
 "$out/calls" | diff - tests/calls.expected
 told "tests/calls.c" $?
 

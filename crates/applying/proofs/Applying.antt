@@ -17,6 +17,7 @@ use Rattle.fields.specs.Slices.{part_slice}
 use Rattle.records.specs.Record.{Record}
 use Rattle.rows.specs.Entry.{Entry}
 use Rattle.fields.proofs.Starts.{starts-field}
+use Rattle.changes.specs.Limits.{most_entries}
 use Rattle.changes.specs.Change as Changes
 use Rattle.changes.specs.Change.{keyed, same_key, change_of, is_there, insert, without, applied, done, refused_at, later, after_applied, changes_from, changes_of}
 use Rattle.changes.specs.Rank.{rank_of, starts_with}
@@ -29,7 +30,7 @@ use Rattle.by_key.specs.Key.{bare_key}
 use Rattle.one_change.specs.Read.{change_in, Stated, ChangeAt, adding}
 use Rattle.applying.specs.Steps.{Step, Passed, AppliedAt, AppliedTo, changed_from}
 use Rattle.merged.specs.declared.Records.{Records}
-use Rattle.merged.specs.Listed.{listed, starts_in, SameFiles}
+use Rattle.merged.specs.Listed.{listed, starts_in, MergedIn, SameFiles}
 use Rattle.merged.proofs.Known.{known, nine}
 use Rattle.merged.proofs.Rows.{entries_append, field-here}
 use Rattle.by_key.proofs.Keys.{keyed-is, rank_key, there-key}
@@ -153,6 +154,13 @@ relisted before after f starts e =
     let i : after.image.now ≡ before.image.now = ap (λ b. b.now) f.image in
     let c : after.changes.now ≡ before.changes.now = ap (λ b. b.now) f.changes in
     rw (i, c, e)
+
+pub remerged : (before after : Records) → SameFiles before after → length after.starts ≡ most_entries → (starts : List ℕ) → starts_in after ≡ starts
+    → Held before.image.now before.changes.now starts → MergedIn after
+remerged before after f l starts e h =
+    let i : after.image.now ≡ before.image.now = ap (λ b. b.now) f.image in
+    let c : after.changes.now ≡ before.changes.now = ap (λ b. b.now) f.changes in
+    record { full = l; few = after.few; held = rw (i, c, e) h }
 
 -- The changes one after another
 

@@ -2,12 +2,13 @@
 use Rattle.std.specs.Prelude.{◌≡◌, Bool, true, cond, ℕ, ◌+◌, ◌-◌, ◌*◌, ◌≤◌, ◌<◌, length, drop, Option, Some, None, Result, Ok, Err}
 use Rattle.changes.specs.Change.{Change, Changed, applied, done, refused_at, later, changes_from, changes_of}
 use Rattle.merged.specs.declared.Records.{Records}
-use Rattle.merged.specs.Listed.{listed, SameFiles}
+use Rattle.merged.specs.Listed.{listed, MergedIn, SameFiles}
 
 -- one change applied to the records, which are n afterwards; or it cannot be applied
 pub record Step (change : Change) (before after : Records) (n : ℕ) (ok : Bool) : Type 0 where
   pub is : applied change (listed before) ≡ cond ok (Some (listed after)) None
   pub count : ok ≡ true → after.count ≡ n
+  pub merged : MergedIn after
   pub files : SameFiles before after
 
 -- the changes from a position of the file on

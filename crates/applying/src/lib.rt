@@ -4,8 +4,9 @@
 ghost use Rattle.std.specs.Prelude.{◌≡◌, true, ◌+◌, ◌-◌, ◌≤◌, ◌<◌, length, get_or};
 ghost use Rattle.std.proofs.Math.Seq.{slice};
 ghost use Rattle.registry.specs.Limits.{most_records};
-ghost use Rattle.changes.specs.Limits.{most_entries};
+ghost use Rattle.changes.specs.Limits.{most_changes, most_entries};
 ghost use Rattle.merged.specs.Held.{Recorded};
+ghost use Rattle.merged.specs.Listed.{MergedIn};
 ghost use Rattle.by_key.specs.Key.{Key};
 ghost use Rattle.one_change.specs.Read.{adding, removing};
 ghost use Rattle.applying.specs.Steps.{Step, AppliedAt, AppliedTo};
@@ -17,8 +18,8 @@ use registry::{MOST_IMAGE, PerRecord};
 
 // The record in a part of the change file added; false if its key is there already. It has no value to hand out, so a bool says it.
 fn add(records: &mut Records, start: usize, end: usize) -> bool
-    requires { (records.old.count < most_entries) × (start ≤ end) × (end ≤ length records.old.changes.now)
-        × Recorded (slice start end records.old.changes.now) }
+    requires { MergedIn records.old × (records.old.count < most_entries) × (start ≤ end) × (end ≤ length records.old.changes.now)
+        × (length records.old.changes.now ≤ most_changes) × Recorded (slice start end records.old.changes.now) }
     ensures { Step (adding records.old.changes.now start end) records.old records.new (records.old.count + 1) result }
 {
     let r = &records.changes[start..end];
@@ -34,7 +35,7 @@ fn add(records: &mut Records, start: usize, end: usize) -> bool
 
 // The record of a key removed; false if it isn't there.
 fn remove(records: &mut Records, start: usize, end: usize) -> bool
-    requires { (start < end) × (end ≤ length records.old.changes.now)
+    requires { MergedIn records.old × (start < end) × (end ≤ length records.old.changes.now)
         × Key (get_or records.old.changes.now start 0) (slice (start + 1) end records.old.changes.now) }
     ensures { Step (removing records.old.changes.now start end) records.old records.new (records.old.count - 1) result }
 {
@@ -50,8 +51,10 @@ fn remove(records: &mut Records, start: usize, end: usize) -> bool
 
 // The change at a position applied: where it ends; nothing if it cannot be applied.
 fn apply_at(records: &mut Records, at: usize, starts: &mut PerRecord) -> Option<usize>
-    requires { (at < length records.old.changes.now) × (records.old.count < most_entries) × (length starts.old ≡ most_records) }
+    requires { MergedIn records.old × (at < length records.old.changes.now) × (records.old.count < most_entries)
+        × (length records.old.changes.now ≤ most_changes) × (length starts.old ≡ most_records) }
     ensures applied { AppliedAt at records.old records.new result }
+    ensures merged { MergedIn records.new }
     ensures full { length starts.new ≡ most_records }
 {
     match change_at(records.changes, at, starts)? {
@@ -62,8 +65,10 @@ fn apply_at(records: &mut Records, at: usize, starts: &mut PerRecord) -> Option<
 
 // The changes of the file applied; or the offset of the first that cannot be applied.
 pub fn apply(records: &mut Records, starts: &mut PerRecord) -> Result<(), usize>
-    requires { (records.old.count ≤ most_records) × (length starts.old ≡ most_records) }
-    ensures { AppliedTo records.old records.new result }
+    requires { MergedIn records.old × (records.old.count ≤ most_records) × (length records.old.changes.now ≤ most_changes)
+        × (length starts.old ≡ most_records) }
+    ensures applied { AppliedTo records.old records.new result }
+    ensures merged { MergedIn records.new }
 {
     let mut at = 0;
     // From change to change, each where the one before it ends.

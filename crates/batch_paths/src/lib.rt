@@ -10,10 +10,17 @@ ghost use Rattle.batch_paths.specs.Answering.{Answering};
 use entries::SoundImage;
 
 // How many paths a text has: one more than line feeds.
+// No `count`, for speed: this loop takes fewer steps for each byte.
 pub fn count_paths(text: &[u8]) -> usize
     ensures { result ≡ length (paths_of text.now) }
 {
-    text.iter().filter(|b| **b == b'\n').count() + 1
+    let mut feeds: usize = 0;
+    for b in text {
+        if *b == b'\n' {
+            feeds += 1;
+        }
+    }
+    feeds + 1
 }
 
 // Answers the paths of a text, one after another, until fewer than four places are left. Gives how many were answered.

@@ -6,7 +6,7 @@ ghost use Rattle.records.specs.Record.{follows};
 ghost use Rattle.changes.specs.Change.{keyed, is_there};
 ghost use Rattle.changes.specs.Rank.{rank_of};
 ghost use Rattle.merged.specs.Held.{parsed_from, Recorded};
-ghost use Rattle.merged.specs.Listed.{listed};
+ghost use Rattle.merged.specs.Listed.{listed, MergedIn};
 ghost use Rattle.by_key.specs.Key.{bare_key, Key};
 
 use fields::Field;
@@ -70,7 +70,7 @@ fn comes_after(r: &[u8], tag: u8, key: &[u8]) -> bool
 
 // How many of the records come before a key. By halves, since they are sorted; the law of halves is shared with the names.
 pub fn rank(records: &Records, tag: u8, key: &[u8]) -> usize
-    requires { Key tag key.now }
+    requires { MergedIn records.now × Key tag key.now }
     ensures { result ≡ rank_of (keyed tag key.now) (listed records.now) }
 {
     let mut low: u32 = 0;
@@ -88,7 +88,7 @@ pub fn rank(records: &Records, tag: u8, key: &[u8]) -> usize
 
 // Whether the record at the rank of a key has this key.
 pub fn is_there(records: &Records, at: usize, tag: u8, key: &[u8]) -> bool
-    requires { Key tag key.now × (at ≡ rank_of (keyed tag key.now) (listed records.now)) }
+    requires { MergedIn records.now × Key tag key.now × (at ≡ rank_of (keyed tag key.now) (listed records.now)) }
     ensures { result ≡ is_there (keyed tag key.now) (listed records.now) }
 {
     if records.count <= at {

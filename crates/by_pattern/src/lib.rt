@@ -21,7 +21,7 @@ fn picked(image: &[u8], at: usize, which: Part, fold: bool, form: Form, pattern:
     requires { Inside (length image.now) (contents_span which image.now at) }
     ensures { result ≡ matches_form fold form pattern.now (text_at image.now at which) }
 {
-    pattern::form_matches(fold, form, pattern, text_at(image, at, which))
+    pattern::form_matches(fold, Ok(form), pattern, text_at(image, at, which))
 }
 
 // The numbers of the records of the run that are picked, by one pass.

@@ -1,17 +1,27 @@
 -- The step of a walk over the prefixes: the trailing zeros of the start, capped by the highest bit of what remains.
-use Prim.Native.Nat.{ℕ, suc, ◌+◌, ◌-◌, ◌^◌, ◌%◌, ◌≤◌, ◌<◌, min}
+use Prim.Native.Nat.{ℕ, suc, ◌+◌, ◌-◌, ◌*◌, ◌^◌, ◌%◌, ◌≤◌, ◌<◌, min}
 use mathlib.Core.Path.{◌≡◌, refl}
 use mathlib.Core.List.{◌∷◌}
 use native.Mathlib.Omega.{arith}
 use native.Mathlib.Decide.{dec_le, dec_lt}
+use native.Mathlib.Nat.{mul-le-mul_right}
 use lib.Count.{count_trailing_zeros}
-use lib.Pow.{pow_mono, pow_pos}
+use lib.Pow.{pow-add, pow_mono, pow_pos}
 use Rattle.address.specs.Ranges.{Range}
 use Rattle.cidr.specs.Prefixes.{prefix, from-to, prefixes_of}
 use Rattle.cidr.specs.First.{Largest, Capped, Top}
 use Rattle.cidr.proofs.Multiples.{Multiple, sum, itself, finer, near, of_remainder, to_remainder}
 use Rattle.cidr.proofs.Zeros.{Zeros, zeros}
 use Rattle.cidr.proofs.Greedy.{first-prefix}
+
+-- a number of two digits: the place of the highest bit of the high one, if that is not 0
+pub top-high : (k : ℕ) {h l t : ℕ} → Top h t → l < 2 ^ k → Top (h * 2 ^ k + l) (k + t)
+top-high k {h} {l} {t} p b = record {
+  from = rw (pow-add 2 k t) (omega (arith, mul-le-mul_right (2 ^ k) p.from));
+  to =
+      let e : suc (k + t) ≡ suc t + k = omega arith in
+      rw (e, pow-add 2 (suc t) k) (omega (arith, mul-le-mul_right (2 ^ k) p.to));
+}
 
 -- trailing zeros of the start, capped by the bits that what remains allows
 module _ (w s e z : ℕ) (low : z ≡ count_trailing_zeros w s) (below : e < 2 ^ w) where

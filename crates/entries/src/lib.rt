@@ -10,6 +10,7 @@ ghost use Rattle.image.specs.Entries.{start_of, contents_span, span_of, PartSpan
 ghost use Rattle.image.specs.Index.{Indexed, FirstFrom, RunOf};
 ghost use Rattle.entries.specs.Alike.{Indexed-prop};
 
+use halves::middle;
 use image::{Run, index};
 use reader::read;
 use records::{Span, handle_span, name_span, range_span};
@@ -35,16 +36,22 @@ impl<'a> SoundImage<'a> {
         self.starts[number as usize] as usize
     }
 
-    // The number of the first record whose tag is not below this one; their number, if there is none. The records are sorted by
-    // tag, and each start is in the image: no 0 is read in place of a tag.
+    // The number of the first record whose tag is not below this one; their number, if there is none. By halves, since the records are
+    // sorted by tag. No `partition_point`: `middle` promises that at most half is left at each step, for this search as for the others.
     pub fn first_from(self, tag: u8) -> u32
         ensures { FirstFrom self.entry.bytes.now self.entry.count tag result }
     {
-        let (bytes, starts) = (self.bytes, self.starts);
-        starts[..self.count as usize].partition_point(|start| {
-            let found = bytes.get(*start as usize).copied();
-            found.unwrap_or(0) < tag
-        }) as u32
+        let mut low = 0;
+        let mut high = self.count;
+        while low < high {
+            let i = middle(low, high);
+            if self.bytes[self.start_of(i)] < tag {
+                low = i + 1;
+            } else {
+                high = i;
+            }
+        }
+        low
     }
 
     // The records with a tag from low to high.

@@ -10,12 +10,11 @@ use lib.ListN.{length, take}
 use Rattle.image.specs.Image.{starts_right, image_of}
 use Rattle.image.specs.Checking.{verdict_of, numbers_in}
 use Rattle.registry.specs.declared.Flaw.{Flaw}
-use Rattle.registry.specs.Defects.{defect_number}
 use Rattle.std.specs.Prelude.{Result, Ok, Err}
 use Rattle.image.proofs.Soundness.{is-sound, is-defective, verdict_sound, verdict_defective}
 use Rattle.rows.specs.Entry.{Entry, row_of}
 use Rattle.rows.proofs.Images.{length_of}
-use Rattle.changes.specs.Fold.{bad_image, no_room, fits, finished}
+use Rattle.changes.specs.Fold.{no_room, fits, finished}
 use Rattle.output.specs.Writing.{Written}
 use Rattle.output.proofs.Writing.{written_over}
 use Rattle.final_image.specs.Call.{folded_in, Gives}

@@ -1,7 +1,11 @@
 // The final image of a fold: judged by its records, and written to a lent buffer.
 #![tactic(auto)]
 
-ghost use Rattle.merged.specs.Listed.{image_in};
+ghost use Rattle.std.specs.Prelude.{◌≡◌, true, ◌≤◌, length};
+ghost use Rattle.registry.specs.Limits.{most_image};
+ghost use Rattle.image.specs.Image.{starts_right};
+ghost use Rattle.changes.specs.Limits.{most_changes};
+ghost use Rattle.merged.specs.Listed.{image_in, MergedIn};
 ghost use Rattle.final_image.specs.Call.{Finished};
 
 use merged::Records;
@@ -25,6 +29,8 @@ pub enum FoldError {
 
 // The final image written, and how many bytes it has: its verdict, its room, and then its bytes.
 pub fn finish(records: &Records, out: &mut [u8]) -> Result<u32, FoldError>
+    requires { MergedIn records.now × (starts_right records.now.image.now ≡ true)
+        × (length records.now.image.now ≤ most_image) × (length records.now.changes.now ≤ most_changes) }
     ensures { Finished (image_in records.now) out.old out.new result }
 {
     let size = 4 + records.size();

@@ -12,7 +12,7 @@ use Rattle.std.specs.Prelude.{Result, Err}
 use Rattle.image.proofs.Soundness.{is-defective, verdict_defective}
 use Rattle.changes.specs.Change.{Changed, done, refused_at}
 use Rattle.merged.specs.declared.Records.{Records}
-use Rattle.merged.specs.Listed.{bytes_of_number, listed}
+use Rattle.merged.specs.Listed.{bytes_of_number, listed, MergedIn}
 use Rattle.merged.proofs.Numbered.{count-is, entry_at}
 use Rattle.final_list.specs.Final.{changed_in, bytes_of_first, record_after, record_in, final_record}
 
@@ -29,11 +29,11 @@ module _ (image changes : List ℕ) (n : ℕ) where
     pub record_refused : (offset : ℕ) → changed_in image changes (records_of (image_of image)) ≡ refused_at offset → [] ≡ final_record image changes n
     record_refused offset e = found (refused_at offset) e
 
-    module _ (m : Records) (e : changed_in image changes (records_of (image_of image)) ≡ done (listed m)) where
+    module _ (m : Records) (o : MergedIn m) (e : changed_in image changes (records_of (image_of image)) ≡ done (listed m)) where
       pub record_none : m.count ≤ n → [] ≡ final_record image changes n
       record_none l =
-          let z = drop_of_length-le (listed m) {i = n} (omega (arith, count-is m.merged)) in
+          let z = drop_of_length-le (listed m) {i = n} (omega (arith, count-is o)) in
           sym (ap bytes_of_first z) ∙ found _ e
 
       pub record_found : n < m.count → bytes_of_number m n ≡ final_record image changes n
-      record_found l = sym (ap bytes_of_first (entry_at m.merged n l)) ∙ found _ e
+      record_found l = sym (ap bytes_of_first (entry_at o n l)) ∙ found _ e

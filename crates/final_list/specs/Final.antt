@@ -6,7 +6,7 @@ use Rattle.image.specs.Part.{records_of}
 use Rattle.rows.specs.Entry.{Entry, entries_of}
 use Rattle.changes.specs.Limits.{most_changes}
 use Rattle.changes.specs.Change.{Changed, done, refused_at, changes_of}
-use Rattle.merged.specs.Listed.{listed}
+use Rattle.merged.specs.Listed.{listed, MergedIn}
 use Rattle.merged.specs.declared.Records.{Records}
 
 -- the changes of a file applied to the records of an image
@@ -15,7 +15,7 @@ changed_in image changes records = cond (leb (length changes) most_changes) (cha
 
 -- as the code tells it, by the records afterwards
 abbrev pub ChangedTo : List ℕ → List ℕ → Records → Result Unit ℕ → Type 0
-ChangedTo image changes after (Ok _) = changed_in image changes (records_of (image_of image)) ≡ done (listed after)
+ChangedTo image changes after (Ok _) = (changed_in image changes (records_of (image_of image)) ≡ done (listed after)) × MergedIn after × (length changes ≤ most_changes)
 ChangedTo image changes after (Err offset) = (changed_in image changes (records_of (image_of image)) ≡ refused_at offset) × (offset ≤ most_changes)
 
 abbrev pub bytes_of_first : List Entry → List ℕ

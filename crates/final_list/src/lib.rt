@@ -1,15 +1,32 @@
-// A record of the final list of a change file by its number, for the program.
+// The final list of a change file; a record of it by its number, for the program.
 #![tactic(auto)]
 
-ghost use Rattle.std.specs.Prelude.{◌≡◌};
+ghost use Rattle.std.specs.Prelude.{◌≡◌, length};
 ghost use Rattle.image.specs.Index.{Indexed};
-ghost use Rattle.final_list.specs.Final.{final_record};
+ghost use Rattle.changes.specs.Limits.{most_entries};
+ghost use Rattle.merged.specs.Listed.{SameFiles};
+ghost use Rattle.final_list.specs.Final.{ChangedTo, final_record};
 
 use applying::apply;
-use changes::MOST_CHANGES;
+use changes::{MOST_CHANGES, MOST_ENTRIES};
 use image::index;
-use merged::Records;
+use merged::{Records, note_starts};
 use registry::{MOST_RECORDS, PerRecord};
+
+// The changes applied to the records of a sound image, whose index is handed in; what the index of starts held before is of no account.
+pub fn changed(records: &mut Records, starts: &mut PerRecord, count: usize) -> Result<(), usize>
+    requires { Indexed records.old.image.now count starts.old }
+    ensures changed { ChangedTo records.old.image.now records.old.changes.now records.new result }
+    ensures full { length records.new.starts ≡ most_entries }
+    ensures same { SameFiles records.old records.new }
+{
+    if MOST_CHANGES < records.changes.len() {
+        return Err(0);
+    }
+    note_starts(starts, count, &mut records.starts);
+    records.count = count;
+    apply(records, starts)
+}
 
 // A record of the final list by its number: its bytes, none where there is no such record. The image is sound, and its index is handed in.
 fn record_after<'a>(
@@ -22,11 +39,14 @@ fn record_after<'a>(
     requires { Indexed image.now count starts.old }
     ensures { result.now ≡ final_record image.now changes.now number }
 {
-    if MOST_CHANGES < changes.len() {
-        return &[];
-    }
-    let mut records = Records::new(image, changes, starts, count);
-    let Ok(()) = apply(&mut records, starts) else {
+    // Made where they lie: `Records::new` would copy the 9,600 starts, and take stack for both.
+    let mut records = Records {
+        image,
+        changes,
+        starts: [0; MOST_ENTRIES],
+        count: 0,
+    };
+    let Ok(()) = changed(&mut records, starts, count) else {
         return &[];
     };
     if records.count <= number {

@@ -1,5 +1,5 @@
 -- The answers of the call.
-use mathlib.Core.Path.{◌≡◌, refl, sym, ◌∙◌, ap}
+use mathlib.Core.Path.{◌≡◌, refl, ◌∙◌, ap}
 use mathlib.Core.Bool.{Bool, true, false, cond}
 use mathlib.Core.List.{List, ◌++◌}
 use Prim.Native.Nat.{ℕ}
@@ -10,7 +10,6 @@ use Rattle.image.specs.Image.{sound, image_of}
 use Rattle.image.specs.Part.{records_of}
 use Rattle.image.specs.Checking.{verdict_of, numbers_in}
 use Rattle.registry.specs.declared.Flaw.{Flaw}
-use Rattle.registry.specs.Defects.{defect_number}
 use Rattle.std.specs.Prelude.{Result, Err}
 use Rattle.image.proofs.Soundness.{is-defective, verdict_defective}
 use Rattle.rows.specs.Entry.{Entry, entries_of, row_of}

@@ -6,9 +6,9 @@ ghost use Rattle.image.specs.Index.{Indexed};
 ghost use Rattle.changes.specs.Fold.{fold_of};
 ghost use Rattle.final_image.specs.Call.{folded_of, folded_in, out_after, Gives};
 
-use applying::apply;
-use changes::MOST_CHANGES;
+use changes::MOST_ENTRIES;
 use final_image::{FoldError, finish};
+use final_list::changed;
 use image::index;
 use merged::Records;
 use registry::{MOST_RECORDS, PerRecord};
@@ -24,11 +24,14 @@ fn fold_sound(
     requires { Indexed image.now count starts.old }
     ensures { Gives (fold_of image.now changes.now (length out.old)) out.old out.new result }
 {
-    if MOST_CHANGES < changes.len() {
-        return Err(FoldError::Change(0));
-    }
-    let mut records = Records::new(image, changes, starts, count);
-    match apply(&mut records, starts) {
+    // Made where they lie: `Records::new` would copy the 9,600 starts, and take stack for both.
+    let mut records = Records {
+        image,
+        changes,
+        starts: [0; MOST_ENTRIES],
+        count: 0,
+    };
+    match changed(&mut records, starts, count) {
         Err(offset) => Err(FoldError::Change(offset as u32)),
         Ok(()) => finish(&records, out),
     }

@@ -40,6 +40,12 @@ pub stripped-none : (s : List ℕ) → pointwise eqb (drop (length s - 1) s) (co
 unfolding without_final_dot
 stripped-none s e = rw (sym (last-dot s) ∙ e)
 
+-- an empty text has no final dot
+pub no_final_dot : (s : List ℕ) → length s ≡ 0 → without_final_dot s ≡ s
+unfolding without_final_dot
+no_final_dot [] e = refl
+no_final_dot (c ∷ s) e = let z : ⊥ = omega arith in absurd z
+
 -- one byte folded: what is folded, with the rest folded, is the same text
 module _ (s : List ℕ) (i : ℕ) where
   pub fold_step : (v : ℕ) → i < length s → v ≡ fold (get_or s i 0)

@@ -65,3 +65,10 @@ pub record Merged (image changes index : List ℕ) (n : ℕ) : Type 0 where
   pub full : length index ≡ most_entries
   pub few : n ≤ most_entries
   pub held : Held image changes (take n index)
+
+-- Serving the functions that change the index
+
+-- an index whose first n places are these starts
+pub record Starting (index : List ℕ) (n : ℕ) (starts : List ℕ) : Type 0 where
+  pub first : take n index ≡ starts
+  pub full : length index ≡ most_entries

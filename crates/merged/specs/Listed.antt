@@ -1,7 +1,7 @@
 -- Serves contracts and proofs. What the type `Records` lists.
 use Rattle.std.specs.Prelude.{◌≡◌, List, ℕ, take, get_or}
 use Rattle.rows.specs.Entry.{Entry}
-use Rattle.merged.specs.Held.{bytes_at, entries_at, row_at, image_at}
+use Rattle.merged.specs.Held.{bytes_at, entries_at, row_at, image_at, Merged}
 use Rattle.merged.specs.declared.Records.{Records}
 
 -- the starts, in the order of the keys
@@ -24,6 +24,10 @@ row_in m = row_at m.image.now m.changes.now (starts_in m)
 
 abbrev pub image_in : Records → List ℕ
 image_in m = image_at m.image.now m.changes.now (starts_in m)
+
+-- its starts are those of whole records without defects 3 to 5, in the order of the image
+abbrev pub MergedIn : Records → Type 0
+MergedIn m = Merged m.image.now m.changes.now m.starts m.count
 
 -- those of one image and one change file
 pub record SameFiles (before after : Records) : Type 0 where

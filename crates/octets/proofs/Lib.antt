@@ -12,3 +12,4 @@ pub mod Pieces
 pub mod Cuts
 pub mod Fronts
 pub mod BigEndian
+pub mod Pairs

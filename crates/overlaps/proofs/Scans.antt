@@ -19,8 +19,8 @@ use Rattle.rows.specs.Ordered.{AllAfter, after-cons, Ordered, ordered-cons}
 use Rattle.records.proofs.Judging.{judged-after}
 use Rattle.rows.proofs.Rows.{image-step, entry-head}
 use Rattle.changes.proofs.Ranks.{no-cons}
-use Rattle.merged.specs.Held.{parsed_from, entry_of, Recorded, Merged}
-use Rattle.merged.specs.Listed.{bytes_in, listed}
+use Rattle.merged.specs.Held.{parsed_from, entry_of, Recorded}
+use Rattle.merged.specs.Listed.{bytes_in, listed, MergedIn}
 use Rattle.merged.specs.declared.Records.{Records}
 use Rattle.overlaps.specs.Overlaps.{OpenBlocks, open_last, Overlaps}
 use Rattle.merged.proofs.Known.{known, first-at-most}
@@ -63,10 +63,7 @@ scan-start records stack z = record {
   next = λ x more e. (refl, record { tags = omega arith; firsts = λ f b. omega arith });
 }
 
-module _ {records : Records} {stack : List ℕ} {depth before i : ℕ} (m : Scanned records stack depth before i) (l : i < records.count) where
-  abbrev o : Merged records.image.now records.changes.now records.starts records.count
-  o = records.merged
-
+module _ {records : Records} (o : MergedIn records) {stack : List ℕ} {depth before i : ℕ} (m : Scanned records stack depth before i) (l : i < records.count) where
   abbrev es : List Entry
   es = listed records
 

@@ -1,16 +1,16 @@
 // The final image judged by the index of its records, without being made: too long, too many records, or an overlap.
 #![tactic(auto)]
 
-ghost use Rattle.std.specs.Prelude.{◌≡◌, ◌+◌, ◌≤◌, length};
+ghost use Rattle.std.specs.Prelude.{◌≡◌, true, ◌+◌, ◌≤◌, length};
 ghost use Rattle.registry.specs.Tags.{as_block};
 ghost use Rattle.registry.specs.Limits.{most_records};
 ghost use Rattle.records.specs.Record.{range_of};
 ghost use Rattle.nesting.specs.Nest.{nest_of};
 ghost use Rattle.placing.specs.Step.{nest_in};
-ghost use Rattle.image.specs.Image.{image_of};
+ghost use Rattle.image.specs.Image.{starts_right, image_of};
 ghost use Rattle.image.specs.Checking.{verdict_of, numbers_in};
 ghost use Rattle.merged.specs.Held.{parsed_from, Recorded};
-ghost use Rattle.merged.specs.Listed.{listed, row_in, image_in};
+ghost use Rattle.merged.specs.Listed.{listed, row_in, image_in, MergedIn};
 ghost use Rattle.overlaps.specs.Overlaps.{OpenBlocks, Among, open_last, Overlaps};
 
 use merged::Records;
@@ -61,7 +61,7 @@ fn nest_after(
 
 // The number of the first of the first n records that overlaps an earlier one.
 fn first_overlap(records: &Records, n: usize) -> Option<usize>
-    requires { (n ≤ most_records) × (n ≤ records.now.count) }
+    requires { MergedIn records.now × (n ≤ most_records) × (n ≤ records.now.count) }
     ensures { Overlaps (listed records.now) n result }
 {
     let mut stack = [0u32; MOST_RECORDS];
@@ -84,7 +84,7 @@ fn first_overlap(records: &Records, n: usize) -> Option<usize>
 
 // The verdict on the final image of so many bytes.
 pub fn final_verdict(records: &Records, size: usize) -> Result<u32, Flaw>
-    requires { size ≡ 4 + length (row_in records.now) }
+    requires { MergedIn records.now × (starts_right records.now.image.now ≡ true) × (size ≡ 4 + length (row_in records.now)) }
     ensures { numbers_in result ≡ verdict_of (image_of (image_in records.now)) }
 {
     if MOST_IMAGE < size {

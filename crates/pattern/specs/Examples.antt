@@ -1,11 +1,9 @@
 -- Host-name patterns, with names that match them and that do not.
 use Prim.Native.String.{String}
-use Rattle.std.specs.Prelude.{ℕ, ◌≡◌, refl, List, [], ◌∷◌, map, Bool, true, false, Result, Ok, Err}
+use Rattle.std.specs.Prelude.{◌≡◌, refl, List, [], ◌∷◌, map, Bool, true, false}
 use Rattle.octets.specs.Ascii.{ascii}
 use Rattle.registry.specs.declared.Text.TheVariants.{Host}
-use Rattle.pattern.specs.declared.Form.{Form}
-use Rattle.pattern.specs.declared.PatternError.{PatternError}
-use Rattle.pattern.specs.Pattern.{pattern_of, matches_form}
+use Rattle.pattern.specs.Pattern.{pattern_of, matches_read}
 use Rattle.pattern.specs.Computing.{computing}
 
 -- A host-name pattern, a name, and whether it matches.
@@ -17,13 +15,8 @@ pub record Case : Type 0 where
 abbrev pub matching : String → String → Bool → Case
 matching pattern name b = record { pattern = pattern; name = name; matches = b }
 
--- a text that is no pattern matches no name
-abbrev pub matches_read : Result Form PatternError → List ℕ → List ℕ → Bool
-matches_read (Ok form) pattern name = matches_form true form pattern name
-matches_read (Err e) pattern name = false
-
 abbrev pub is_match : String → String → Bool
-is_match pattern name = matches_read (pattern_of Host (ascii pattern)) (ascii pattern) (ascii name)
+is_match pattern name = matches_read true (pattern_of Host (ascii pattern)) (ascii pattern) (ascii name)
 
 abbrev pub cases : List Case
 cases =

@@ -60,6 +60,11 @@ unfoldable pub matches_form : Bool → Form → List ℕ → List ℕ → Bool
 matches_form folded Exact pattern name = alike folded pattern name
 matches_form folded (Asterisk at) pattern name = ltb at (length pattern) && matches folded (take at pattern) (drop (at + 1) pattern) name
 
+-- S9.2: a name and what was read as a pattern. A text that is no pattern, or one that is not supported, matches no name.
+abbrev pub matches_read : Bool → Result Form PatternError → List ℕ → List ℕ → Bool
+matches_read folded (Ok form) pattern name = matches_form folded form pattern name
+matches_read folded (Err e) pattern name = false
+
 -- S9.4: names match with ASCII case folded, handles exactly.
 abbrev pub folds_case : Text → Bool
 folds_case Handle = false

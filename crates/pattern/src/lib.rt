@@ -6,7 +6,7 @@ ghost use Rattle.octets.specs.Ascii.{code};
 ghost use Rattle.octets.specs.Lists.{every};
 ghost use Rattle.octets.specs.Split.{split};
 ghost use Rattle.texts.specs.Host.{is_label_byte};
-ghost use Rattle.pattern.specs.Pattern.{is_host, longest, pattern_byte, is_pattern, is_suffix, form_of, pattern_of, matches, matches_form, folds_case};
+ghost use Rattle.pattern.specs.Pattern.{is_host, longest, pattern_byte, is_pattern, is_suffix, form_of, pattern_of, matches, matches_read, folds_case};
 
 use registry::{MOST_HOST, MOST_TEXT, Text};
 
@@ -78,7 +78,7 @@ fn are_pattern_bytes(text: Text, s: &[u8]) -> bool
 
 // Whether s has the length and the characters of a pattern.
 #[tactic(auto, unfolding(crate::specs::Pattern::is_pattern))]
-fn is_pattern(text: Text, s: &[u8]) -> bool
+pub fn is_pattern(text: Text, s: &[u8]) -> bool
     ensures { result ≡ is_pattern text s.now }
 {
     !s.is_empty() && s.len() <= longest_pattern(text) && are_pattern_bytes(text, s)
@@ -139,15 +139,21 @@ pub fn pattern_matches(fold: bool, prefix: &[u8], suffix: &[u8], name: &[u8]) ->
         && (q == 0 || !pieces::has_byte(b'.', &name[p..n - q]))
 }
 
-// Whether a name matches a pattern of this form.
+// Whether a name matches what was read as a pattern; what was refused matches no name.
 #[tactic(auto, unfolding(crate::specs::Pattern::matches_form))]
-pub fn form_matches(fold: bool, form: Form, pattern: &[u8], name: &[u8]) -> bool
-    ensures { result ≡ matches_form fold form pattern.now name.now }
+pub fn form_matches(
+    fold: bool,
+    form: Result<Form, PatternError>,
+    pattern: &[u8],
+    name: &[u8],
+) -> bool
+    ensures { result ≡ matches_read fold form pattern.now name.now }
 {
     match form {
-        Form::Exact => folding::same(fold, pattern, name),
-        Form::Asterisk(at) => {
+        Ok(Form::Exact) => folding::same(fold, pattern, name),
+        Ok(Form::Asterisk(at)) => {
             at < pattern.len() && pattern_matches(fold, &pattern[..at], &pattern[at + 1..], name)
         }
+        Err(_) => false,
     }
 }

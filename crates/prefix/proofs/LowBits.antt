@@ -1,10 +1,10 @@
 -- The low bits of a number, where all of them are asked for: which are zero, and the number with them set.
-use mathlib.Core.Path.{◌≡◌, ◌∙◌}
+use mathlib.Core.Path.{◌≡◌, sym, ◌∙◌}
 use Prim.Native.Nat.{ℕ, suc, ◌+◌, ◌-◌, ◌*◌, ◌^◌, ◌%◌, ◌/◌, ◌<◌, ◌≤◌}
 use native.Mathlib.Omega.{arith}
 use borrow.Author.Tests.{eq-eqb, ne_eqb}
 use lib.Bits.{bit_and, bit_or}
-use lib.Pow.{pow-add, shr_lt, split}
+use lib.Pow.{pow-add, pow_pos, shr_lt, split}
 use native.Mathlib.Nat.{mul-le-mul_right, pow-zero, div-one}
 use Rattle.std.specs.Prelude.{Some, None}
 use Rattle.std.proofs.lemmas.Nat.Bits.{and_high, and_high_mask, or_low_ones}
@@ -34,6 +34,15 @@ module _ (k n low : ℕ) (ones : suc low ≡ 2 ^ k) where
         let e : w - k + k ≡ w = omega arith in
         let q : n / 2 ^ k < 2 ^ (w - k) = shr_lt (w - k) k (rw e fits) in
         omega (arith, whole, low_set, mul-le-mul_right (2 ^ k) q, rw e at (pow-add 2 (w - k) k))
+
+-- a byte whose low k bits are zero has room for them
+pub room : (k b : ℕ) → k ≤ 8 → b < 256 → b % 2 ^ k ≡ 0 → b + (2 ^ k - 1) < 256
+room k b l g z =
+    let w : 8 - k + k ≡ 8 = omega arith in
+    let c : 2 ^ (8 - k) * 2 ^ k ≡ 256 = sym (pow-add 2 (8 - k) k) ∙ rw w in
+    let q : b / 2 ^ k < 2 ^ (8 - k) = shr_lt (8 - k) k (rw w g) in
+    let p : 0 < 2 ^ k = pow_pos k in
+    omega (arith, split b k, mul-le-mul_right (2 ^ k) q)
 
 -- the answer, from the low bits
 module _ (bits first l : ℕ) where

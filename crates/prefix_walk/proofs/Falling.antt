@@ -108,3 +108,16 @@ module _ {width : ℕ} {first number : ℕ} (f : Falling width first number) {fr
 -- there are at most 254, also where there is none
 pub few : {width : ℕ} {first number : ℕ} → Falling width first number → length (fallen first number) ≤ 254
 few f = at-most_254 _ (omega (arith, f.positive, under 128 f.below (at-most_128 f.wide)))
+
+-- What a prefix at s leaves of a range up to e: r is its last address, n the one after it, c how many follow it
+pub same-last : (m r n c e : ℕ) → suc r ≡ m → n ≡ m → r + c ≡ e → n + c - 1 ≡ e
+same-last m r n c e a b h = omega arith
+
+pub positive-after : (m r n : ℕ) → suc r ≡ m → n ≡ m → 0 < n
+positive-after m r n a b = omega arith
+
+pub below-after : (m r n c e : ℕ) {k : ℕ} → suc r ≡ m → n ≡ m → r + c ≡ e → e < k → n + c ≤ k
+below-after m r n c e a b h l = omega arith
+
+pub few-after : (s r c e d k : ℕ) → suc r ≡ s + 2 ^ k → r + c ≡ e → s + d ≡ e → suc d < 2 ^ suc k → c < 2 ^ k
+few-after s r c e d k a b h l = omega arith

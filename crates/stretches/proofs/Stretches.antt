@@ -27,13 +27,13 @@ slices a b c s h k =
 pub part-short : {rest part left : List ℕ} → Parted rest part left → {m : ℕ} → length rest ≤ m → length part ≤ m
 part-short {part = part} {left} p h = omega (arith, ap length p.is, length-append part left)
 
-pub put_record : (records : Records) {i : ℕ} → i < records.count → {before after : List ℕ} {size : ℕ} → Written (bytes_of_number records i) before after size
+pub put_record : (records : Records) → records.count ≤ length records.starts → {i : ℕ} → i < records.count → {before after : List ℕ} {size : ℕ} → Written (bytes_of_number records i) before after size
     → PutNext records i before after (record { size = size; until = i + 1 })
-put_record records {i} l w = record {
+put_record records h {i} l w = record {
   some = omega arith;
   few = omega arith;
   bytes = bytes_of_number records i;
-  joined = (next_record records.image.now records.changes.now records.starts records.count (omega (arith, records.merged.full, records.merged.few)) l).is;
+  joined = (next_record records.image.now records.changes.now records.starts records.count h l).is;
   written = w;
 }
 

@@ -2,6 +2,7 @@
 #![tactic(auto)]
 
 ghost use Rattle.std.specs.Prelude.{◌≡◌, ◌≤◌, ◌<◌, length, get_or};
+ghost use Rattle.registry.specs.Limits.{most_image};
 ghost use Rattle.output.specs.Writing.{Written};
 ghost use Rattle.merged.specs.Listed.{row_in};
 ghost use Rattle.stretches.specs.Stretches.{StretchFrom, row_from, PutNext};
@@ -18,7 +19,8 @@ struct Stretch {
 
 // Those from number i on. Each end is reckoned from a start of the index and not from the end before it, so that no read waits for another.
 fn stretch_from(records: &Records, i: usize) -> Stretch
-    requires { (i < records.now.count) × (get_or records.now.starts i 0 < length records.now.image.now) }
+    requires { (i < records.now.count) × (get_or records.now.starts i 0 < length records.now.image.now)
+        × (length records.now.image.now ≤ most_image) }
     ensures { StretchFrom records.now i result }
 {
     let mut last = records.starts[i] as usize;
@@ -48,7 +50,7 @@ struct Put {
 
 // The record with number i, with those that follow it in the image too.
 fn put_next(records: &Records, i: usize, out: &mut [u8]) -> Put
-    requires { (i < records.now.count) × (length (row_from records.now i) ≤ length out.old) }
+    requires { (i < records.now.count) × (length records.now.image.now ≤ most_image) × (length (row_from records.now i) ≤ length out.old) }
     ensures { PutNext records.now i out.old out.new result }
 {
     let start = records.starts[i];
@@ -63,7 +65,7 @@ fn put_next(records: &Records, i: usize, out: &mut [u8]) -> Put
 
 // The records one after another.
 pub fn put_records(records: &Records, out: &mut [u8]) -> usize
-    requires { length (row_in records.now) ≤ length out.old }
+    requires { (length records.now.image.now ≤ most_image) × (length (row_in records.now) ≤ length out.old) }
     ensures { Written (row_in records.now) out.old out.new result }
 {
     let mut at: usize = 0;

@@ -90,12 +90,16 @@ fn say_form(out: &impl Print, form: Form) {
     }
 }
 
-fn matches(text: Text, pattern: &Pattern, name: &[u8]) -> bool {
+// What was refused keeps no text.
+fn matches(text: Text, read: &Result<Pattern, PatternError>, name: &[u8]) -> bool {
     let fold = pattern::folds_case(text);
-    pattern::form_matches(fold, pattern.form, pattern.text.as_slice(), name)
+    match read {
+        Ok(pattern) => pattern::form_matches(fold, Ok(pattern.form), pattern.text.as_slice(), name),
+        Err(e) => pattern::form_matches(fold, Err(*e), b"", name),
+    }
 }
 
-// A pattern, which a space and a name may follow. A text that is no pattern matches no name.
+// A pattern, which a space and a name may follow.
 fn say_pattern(out: &impl Print, text: Text, s: &[u8])
     requires { length s.now ≤ most_path }
 {
@@ -109,10 +113,10 @@ fn say_pattern(out: &impl Print, text: Text, s: &[u8])
     if j == s.len() {
         return;
     }
-    let name = part(s, j + 1, s.len());
-    match &read {
-        Ok(pattern) if matches(text, pattern, name) => say(out, b" matches"),
-        _ => say(out, b" differs"),
+    if matches(text, &read, part(s, j + 1, s.len())) {
+        say(out, b" matches");
+    } else {
+        say(out, b" differs");
     }
 }
 

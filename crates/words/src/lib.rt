@@ -1,7 +1,7 @@
 // Bytes read together, as numbers of four, eight and sixteen bytes, and compared.
 #![tactic(auto)]
 
-ghost use Rattle.std.specs.Prelude.{◌≡◌, ◌+◌, ◌^◌, ◌≤◌, ◌<◌, leb, length};
+ghost use Rattle.std.specs.Prelude.{◌≡◌, ◌+◌, ◌^◌, ◌≤◌, ◌<◌, leb, length, drop};
 ghost use Rattle.octets.specs.Number.{at_most};
 ghost use Rattle.octets.specs.Order.{compared};
 ghost use Rattle.octets.specs.Positions.{Wide, number_in};
@@ -61,6 +61,19 @@ pub fn number_at(s: &[u8], at: usize, width: usize) -> u128
     word16(s, at)
 }
 
+// The order of two of sixteen bytes: only where the high words are the same are the low ones compared, which takes less.
+fn order16(a: &[u8], x: usize, b: &[u8], y: usize) -> bool
+    requires { (x + 16 ≤ length a.now) × (y + 16 ≤ length b.now) }
+    ensures { result ≡ leb (number_in a.now x 16) (number_in b.now y 16) }
+{
+    let high = word8(a, x);
+    let other = word8(b, y);
+    if high != other {
+        return high < other;
+    }
+    word8(a, x + 8) <= word8(b, y + 8)
+}
+
 // The order of two of the given width, each at a position of a slice. Four bytes are compared as numbers of 32 bits, which takes less.
 pub fn numbers_at_most(a: &[u8], x: usize, b: &[u8], y: usize, width: usize) -> bool
     requires { Wide width × (x + width ≤ length a.now) × (y + width ≤ length b.now) }
@@ -69,7 +82,21 @@ pub fn numbers_at_most(a: &[u8], x: usize, b: &[u8], y: usize, width: usize) -> 
     if width == 4 {
         return word4(a, x) <= word4(b, y);
     }
-    word16(a, x) <= word16(b, y)
+    order16(a, x, b, y)
+}
+
+// How what is left of two texts sorts, from a position on. The slices' own order is long code for a few bytes.
+fn compare_rest(a: &[u8], b: &[u8], from: usize) -> Ordering
+    requires { (from ≤ length a.now) × (from ≤ length b.now) }
+    ensures { result ≡ compared (drop from a.now) (drop from b.now) }
+{
+    let n = a.len().min(b.len());
+    for i in from..n {
+        if a[i] != b[i] {
+            return a[i].cmp(&b[i]);
+        }
+    }
+    a.len().cmp(&b.len())
 }
 
 // How two texts sort: by bytes, a proper prefix first. Eight bytes at a time, since names that stand together begin alike.
@@ -87,7 +114,7 @@ pub fn compare(a: &[u8], b: &[u8]) -> Ordering
         }
         i += 8;
     }
-    a[i..].cmp(&b[i..])
+    compare_rest(a, b, i)
 }
 
 // Whether the first of two texts does not sort after the second.

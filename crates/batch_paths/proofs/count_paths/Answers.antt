@@ -1,10 +1,13 @@
 -- A text has one path more than it has line feeds.
-use Rattle.std.proofs.Common.{rules, arith, ◌≡◌, count_by}
-use lib.Dec.{eqb}
+use mathlib.Core.Path.{◌≡◌}
+use mathlib.Core.List.{[]}
+use native.Mathlib.Omega.{arith}
+use lib.ListN.{drop, drop_of_length-le}
 use Rattle.batch_paths.proofs.Splitting.{paths_counted}
 use Rattle.batch_paths.proofs.count_paths.Goals as goal
 
 pub returns : goal.returns
 returns c =
-    let n : c.count.result ≡ count_by (λ b. eqb b 10) c.args.text.now = search rules in
-    omega (arith, paths_counted c.args.text.now)
+    let text = c.args.text.now in
+    let none : drop c.loop-b.b-index text ≡ [] = drop_of_length-le text (omega arith) in
+    omega (arith, rw none at c.loop-b.invariant.1, paths_counted text)

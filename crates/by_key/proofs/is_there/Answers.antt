@@ -10,9 +10,9 @@ use Rattle.by_key.proofs.is_there.Goals as goal
 
 pub returns-then-records-at : goal.returns-then-records-at
 returns-then-records-at c =
-    there-none c.args.records.now.merged _ _ c.requires.1 c.if-records-at.true
+    there-none c.requires.0 _ _ c.requires.2 c.if-records-at.true
 
 pub returns : goal.returns
 returns c =
-    there-here c.args.records.now.merged _ _ c.requires.1 c.if-records-at.false _
+    there-here c.requires.0 _ _ c.requires.2 c.if-records-at.false _
     (c.comes_after.ensures ∙ ap (λ (x : List ℕ). follows (keyed c.args.tag c.args.key.now) (parsed_from x)) c.record.ensures.is)

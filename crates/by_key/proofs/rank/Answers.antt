@@ -12,7 +12,7 @@ use Rattle.by_key.proofs.rank.Goals as goal
 use Rattle.by_key.proofs.rank.Goals.{After-comes_before, After-middle-i}
 
 pub overflow_cast-high : goal.overflow_cast-high
-overflow_cast-high c = omega (arith, c.args.records.now.merged.few)
+overflow_cast-high c = omega (arith, c.requires.0.few)
 
 pub loop-low-init : goal.loop-low-init
 loop-low-init c = halve_none (omega arith)
@@ -34,14 +34,14 @@ loop-low-smaller-then-comes_before c = omega (arith, c.middle-i.ensures)
 
 pub loop-low-preserved-then-comes_before : goal.loop-low-preserved-then-comes_before
 loop-low-preserved-then-comes_before c =
-    ranked_up c.args.records.now.merged _ c.loop-low.invariant c.middle-i.ensures.0 c.middle-i.ensures.1 (test (goal.at.loop-low-preserved-then-comes_before c).After-comes_before ∙ c.if-comes_before.true)
+    ranked_up c.requires.0 _ c.loop-low.invariant c.middle-i.ensures.0 c.middle-i.ensures.1 (test (goal.at.loop-low-preserved-then-comes_before c).After-comes_before ∙ c.if-comes_before.true)
 
 pub loop-low-smaller : goal.loop-low-smaller
 loop-low-smaller c = omega (arith, c.middle-i.ensures)
 
 pub loop-low-preserved : goal.loop-low-preserved
 loop-low-preserved c =
-    ranked_down c.args.records.now.merged _ c.loop-low.invariant c.middle-i.ensures.0 c.middle-i.ensures.1 (test (goal.at.loop-low-preserved c).After-comes_before ∙ c.if-comes_before.false)
+    ranked_down c.requires.0 _ c.loop-low.invariant c.middle-i.ensures.0 c.middle-i.ensures.1 (test (goal.at.loop-low-preserved c).After-comes_before ∙ c.if-comes_before.false)
 
 pub returns : goal.returns
-returns c = ranked_end c.args.records.now.merged _ c.loop-low.invariant c.loop-low-test.false
+returns c = ranked_end c.requires.0 _ c.loop-low.invariant c.loop-low-test.false

@@ -17,7 +17,7 @@ use Rattle.final_image.proofs.finish.Goals.{After-final_verdict-verdict, After-p
 
 pub final_verdict-verdict-requires : goal.final_verdict-verdict-requires
 final_verdict-verdict-requires c =
-    ap (λ (n : ℕ). 4 + n) c.size-size.ensures.is
+    (c.requires.0, c.requires.1, ap (λ (n : ℕ). 4 + n) c.size-size.ensures.is)
 
 pub returns-in-Err : goal.returns-in-Err
 returns-in-Err c =
@@ -25,7 +25,7 @@ returns-in-Err c =
 
 -- the size of the final image
 size : (v : After-final_verdict-verdict) → 4 + v.size-size.result ≡ length (image_in v.args.records.now)
-size v = image-size v.args.records.now.image.now (listed v.args.records.now) v.args.records.now.started _ v.size-size.ensures.is
+size v = image-size v.args.records.now.image.now (listed v.args.records.now) v.requires.1 _ v.size-size.ensures.is
 
 pub returns-then-out-size : goal.returns-then-out-size
 returns-then-out-size c =
@@ -33,7 +33,7 @@ returns-then-out-size c =
 
 pub slice_bounds-put_bytes-end : goal.slice_bounds-put_bytes-end
 slice_bounds-put_bytes-end c =
-    sym (length-take-le 4 c.args.records.now.image.now (start-length c.args.records.now.image.now c.args.records.now.started))
+    sym (length-take-le 4 c.args.records.now.image.now (start-length c.args.records.now.image.now c.requires.1))
 
 pub put_bytes-requires : goal.put_bytes-requires
 put_bytes-requires c =
@@ -55,6 +55,6 @@ of_size e w = rw e at w
 
 pub returns : goal.returns
 returns c =
-    let l = length-take-le 4 c.args.records.now.image.now (start-length c.args.records.now.image.now c.args.records.now.started) in
+    let l = length-take-le 4 c.args.records.now.image.now (start-length c.args.records.now.image.now c.requires.1) in
     let f = of_size (c.put_bytes.ensures.size ∙ l) c.put_bytes.ensures in
     finish_written _ _ _ c.final_verdict-verdict.ensures _ c.in_default.is _ (size (goal.at.returns c).After-final_verdict-verdict) c.if-out-size.false _ _ (written_both f c.put_records-rest.ensures)

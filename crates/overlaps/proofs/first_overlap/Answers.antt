@@ -17,16 +17,16 @@ loop-i-init c = scan-start _ _ refl
 
 -- the number is one of a record
 numbered : (c : After-nest_after) → (c.loop-i.i < c.args.records.now.count) × (c.loop-i.i < 4096)
-numbered c = (omega (arith, c.loop-i-test.true, c.requires.1), omega (arith, c.loop-i-test.true, c.requires.0))
+numbered c = (omega (arith, c.loop-i-test.true, c.requires.2), omega (arith, c.loop-i-test.true, c.requires.1))
 
 pub nest_after-requires : goal.nest_after-requires
 nest_after-requires c =
     let e = c.record_at-r.ensures in
     let s = c.loop-i.invariant in
-    let h : c.loop-i.i < c.args.records.now.count = omega (arith, c.loop-i-test.true, c.requires.1) in (
-      scan-room s h (omega (arith, c.loop-i-test.true, c.requires.0)),
-      subst Recorded (sym e) (whole s h),
-      λ f b. open_blocks s h (f ∙ ap (λ (s : List ℕ). (parsed_from s).tag) e) b,
+    let h : c.loop-i.i < c.args.records.now.count = omega (arith, c.loop-i-test.true, c.requires.2) in (
+      scan-room c.requires.0 s h (omega (arith, c.loop-i-test.true, c.requires.1)),
+      subst Recorded (sym e) (whole c.requires.0 s h),
+      λ f b. open_blocks c.requires.0 s h (f ∙ ap (λ (s : List ℕ). (parsed_from s).tag) e) b,
     )
 
 nested : (p : After-nest_after) → p.nest_after.result
@@ -36,7 +36,7 @@ nested p = rw (← p.record_at-r.ensures) p.nest_after.ensures
 deep : (d : In-Some) → d.in-Some.d < 4096
 deep d =
     let p = (goal.at.offset_bounds-stack-d d).After-nest_after in
-    scan_depth d.loop-i.invariant (numbered p).0 (numbered p).1 _ (nested p) _ d.in-Some.is
+    scan_depth d.requires.0 d.loop-i.invariant (numbered p).0 (numbered p).1 _ (nested p) _ d.in-Some.is
 
 pub offset_bounds-stack-d : goal.offset_bounds-stack-d
 offset_bounds-stack-d c = omega (arith, deep (goal.at.offset_bounds-stack-d c).In-Some)
@@ -49,7 +49,7 @@ overflow_add-depth c = omega (arith, deep (goal.at.overflow_add-depth c).In-Some
 
 pub bounds-r-0 : goal.bounds-r-0
 bounds-r-0 c =
-    let w = known _ (whole c.loop-i.invariant (numbered (goal.at.bounds-r-0 c).After-nest_after).0) in
+    let w = known _ (whole c.requires.0 c.loop-i.invariant (numbered (goal.at.bounds-r-0 c).After-nest_after).0) in
     omega (arith, ap length c.record_at-r.ensures, w.long)
 
 pub loop-i-preserved : goal.loop-i-preserved
@@ -57,13 +57,13 @@ loop-i-preserved c =
     let e = c.record_at-r.ensures in
     let p = (goal.at.loop-i-preserved c).After-nest_after in
     let n = numbered p in
-    let w = known _ (whole c.loop-i.invariant n.0) in
-    scan_on c.loop-i.invariant n.0 n.1 _ (nested p) _ c.in-Some.is _ (ap (λ (s : List ℕ). get_or s 0 0) e ∙ w.tag_is)
+    let w = known _ (whole c.requires.0 c.loop-i.invariant n.0) in
+    scan_on c.requires.0 c.loop-i.invariant n.0 n.1 _ (nested p) _ c.in-Some.is _ (ap (λ (s : List ℕ). get_or s 0 0) e ∙ w.tag_is)
 
 pub returns-in-None : goal.returns-in-None
 returns-in-None c =
     let p = (goal.at.returns-in-None c).After-nest_after in
-    overlap_here _ _ _ c.loop-i-test.true (scan_crossing c.loop-i.invariant (numbered p).0 (numbered p).1 _ (nested p) c.in-None.is)
+    overlap_here _ _ _ c.loop-i-test.true (scan_crossing c.requires.0 c.loop-i.invariant (numbered p).0 (numbered p).1 _ (nested p) c.in-None.is)
 
 pub returns : goal.returns
 returns c = overlap_none _ c.loop-i.invariant (omega arith)

@@ -1,8 +1,5 @@
 -- The sorting first, then the open blocks.
-use mathlib.Core.Path.{sym, ◌∙◌, ap₂}
-use borrow.Author.Tests.{not-true, not-false}
-use Rattle.placing.specs.Step.{step_in}
-use borrow.Author.Rules.{rules}
+use mathlib.Core.Path.{sym, ◌∙◌}
 use Rattle.placing.proofs.block_after.Goals as goal
 
 pub returns-then-not-range_after : goal.returns-then-not-range_after

@@ -1,7 +1,6 @@
 -- By the kind and the tags; records of one tag by their names, or by their ranges and the open blocks. Each return is a law of Steps.antt.
 use mathlib.Core.Path.{◌≡◌, refl, sym, ◌∙◌}
 use borrow.Author.Tests.{eq-eqb, ne_eqb}
-use borrow.Author.Rules.{rules}
 use native.Mathlib.Omega.{arith}
 use Rattle.registry.specs.Tags.{width_of}
 use Rattle.placing.proofs.Steps.{before, step_other, step-named, block_room, step_block}

@@ -1,4 +1,4 @@
-use native.Mathlib.Omega.{arith}
+use borrow.Author.Rules.{rules}
 use Rattle.output.proofs.Writing.{next-part, at-end}
 use Rattle.stretches.proofs.Rows.{no_record}
 use Rattle.stretches.proofs.put_records.Goals as goal
@@ -11,4 +11,4 @@ loop-i-preserved c =
 pub returns : goal.returns
 returns c =
     let m = c.args.records.now in
-    at-end (rw (no_record m.image.now m.changes.now m.starts m.count (omega (arith, m.merged.full, m.merged.few)) {i = c.loop-i.i} c.loop-i-test.false) at c.loop-i.invariant.1)
+    at-end (rw (no_record m.image.now m.changes.now m.starts m.count (search rules) {i = c.loop-i.i} c.loop-i-test.false) at c.loop-i.invariant.1)

@@ -1,11 +1,8 @@
 use mathlib.Core.Path.{sym, ap₂, ◌∙◌}
 use native.Mathlib.Omega.{arith}
 use Rattle.std.specs.Ordering.{nat_cmp}
-use Rattle.std.specs.Cmp.Lexicographic.{slice_cmp}
 use Rattle.octets.specs.Number.{Bytes}
-use Rattle.octets.proofs.Comparing.{slice-compared}
 use Rattle.octets.proofs.Parts.{words-differ, words_same}
-use Rattle.octets.proofs.Pieces.{rest-is}
 use Rattle.words.proofs.compare.Goals as goal
 
 pub returns-then-x-y : goal.returns-then-x-y
@@ -31,6 +28,4 @@ loop-i-preserved c =
     )
 
 pub returns : goal.returns
-returns c =
-    c.cmp-2.ensures ∙ ap₂ (slice_cmp nat_cmp) (rest-is c.args.a.now c.loop-i.i) (rest-is c.args.b.now c.loop-i.i)
-    ∙ slice-compared _ _ ∙ c.loop-i.invariant.3
+returns c = c.compare_rest.ensures ∙ c.loop-i.invariant.3

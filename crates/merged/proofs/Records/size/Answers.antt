@@ -19,6 +19,6 @@ loop-start-preserved c =
     let h : l.start-index < s.count = omega (arith, c.loop-start-test.true, length-take s.count s.starts) in
     let e : length c.record_at.result.now ≡ length (bytes_at s.image.now s.changes.now (get_or s.starts l.start-index 0)) =
     ap length c.record_at.ensures ∙ rw (get_or-take s.count s.starts l.start-index 0 h) in (
-      size-next _ _ _ l.start-index (omega (arith, h, s.merged.full, s.merged.few)) _ _ l.invariant.0 e,
-      omega (arith, e, l.invariant.1, bytes-bound s.image.now s.changes.now (get_or s.starts l.start-index 0) s.image_fits (omega (arith, s.changes_fit))),
+      size-next _ _ _ l.start-index (omega (arith, h, length-take s.count s.starts)) _ _ l.invariant.0 e,
+      omega (arith, e, l.invariant.1, bytes-bound s.image.now s.changes.now (get_or s.starts l.start-index 0) c.requires.0 c.requires.1),
     )
