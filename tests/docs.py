@@ -77,6 +77,9 @@ for name in ("../README.md", "PROMISES.md", "DECISIONS.md", "PROVING.md", "ARCHI
         for edit in re.findall(r"`([^`/]+)/[^`]+`", named):
             check(edit in crates, f"{name}: no crate {edit}")
 
+# How many wrong programs README says are refused.
+check(f"{len(edits)} wrong programs" in document("../README.md"), f"README.md: not '{len(edits)} wrong programs'")
+
 # The campus paths and their answers stand twice: beside the vectors, and where rt ci runs the program.
 for one, other in (("campus.paths", "data/campus.paths"), ("campus.expected", "stdout"), ("campus.image", "data/campus.image")):
     same = (ROOT / "tests/vectors" / one).read_bytes() == (CRATES / "rdap_paths" / other).read_bytes()
